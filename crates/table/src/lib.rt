@@ -1,0 +1,18 @@
+//! One shop's table, its check, and the figures that a plan is shown with.
+mod figures;
+mod limits;
+mod rows;
+mod table;
+
+pub use figures::Figures;
+pub use limits::MAX_ARCS;
+pub use limits::MAX_COST_PART;
+pub use limits::MAX_DENOMINATOR;
+pub use limits::MAX_FIGURE_PART;
+pub use limits::MAX_FINENESS;
+pub use limits::MAX_GRADES;
+pub use limits::MAX_ROWS;
+pub use limits::MAX_TOTAL;
+pub use rows::Arc;
+pub use rows::Row;
+pub use table::Table;
