@@ -1,0 +1,4 @@
+pub mod Walks
+pub mod Searches
+pub mod Tallies
+pub mod Reaches

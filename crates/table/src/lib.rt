@@ -1,9 +1,15 @@
 //! One shop's table, its check, and the figures that a plan is shown with.
+mod counts;
+mod fault;
 mod figures;
 mod limits;
+mod pointers;
+mod reach;
 mod rows;
 mod table;
+mod weights;
 
+pub use fault::TableFault;
 pub use figures::Figures;
 pub use limits::MAX_ARCS;
 pub use limits::MAX_COST_PART;
