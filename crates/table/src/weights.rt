@@ -1,7 +1,7 @@
 ghost use mathlib.Core.Path.{_≡_};
-ghost use Prim.Native.Nat.{_≤_};
 ghost use Rattle.table.specs.Ranges.{Within};
 ghost use Rattle.table.specs.Chains.{arcsOf, weights};
+ghost use Rattle.table.specs.Faults.{lowest, unbalanced};
 use crate::table::Table;
 
 /// What the arcs of the row k weigh together.
@@ -20,4 +20,16 @@ fn row_weight(table: &Table, k: usize) -> u32
         at = arc.next;
     }
     sum
+}
+
+/// The lowest row whose weights do not sum to the total.
+pub(crate) fn unbalanced_row(table: &Table) -> Option<usize>
+    ensures { λ r. ⌜ r ≡ lowest (unbalanced (now (table .entry))) (now (table .entry) .rows) ⌝ }
+{
+    for i in 0..table.rows {
+        if row_weight(table, i + 1) != table.total {
+            return Some(i + 1);
+        }
+    }
+    None
 }

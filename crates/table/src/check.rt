@@ -1,0 +1,46 @@
+ghost use mathlib.Core.Path.{_≡_};
+ghost use Rattle.table.specs.Faults.{tableFault};
+ghost use Rattle.table.specs.Checked.{Checked};
+use crate::fault::TableFault;
+use crate::pointers::mispointed_arc;
+use crate::pointers::mispointed_row;
+use crate::reach::loose_arc;
+use crate::reach::loose_row;
+use crate::sound::SoundTable;
+use crate::table::Table;
+use crate::weights::unbalanced_row;
+
+/// The first fault of a table: each kind over the whole table before the next, at the lowest row or arc.
+pub fn first_fault(table: &Table) -> Option<TableFault>
+    ensures { λ r. ⌜ r ≡ tableFault (now (table .entry)) ⌝ }
+{
+    if let Some(row) = mispointed_row(table) {
+        return Some(TableFault::RowPointers { row });
+    }
+    if let Some(row) = loose_row(table) {
+        return Some(TableFault::LooseRow { row });
+    }
+    if let Some(arc) = mispointed_arc(table) {
+        return Some(TableFault::ArcPointers { arc });
+    }
+    if let Some(arc) = loose_arc(table) {
+        return Some(TableFault::LooseArc { arc });
+    }
+    if let Some(row) = unbalanced_row(table) {
+        return Some(TableFault::Weights { row });
+    }
+    None
+}
+
+/// The table as one that has no fault, or its first fault.
+pub fn check(table: &Table) -> Result<SoundTable, TableFault>
+    ensures { λ r. ⌜ Checked (now (table .entry)) r ⌝ }
+{
+    match first_fault(table) {
+        Some(fault) => Err(fault),
+        None => {
+            let table = *table;
+            Ok(SoundTable { table })
+        }
+    }
+}
