@@ -1,3 +1,6 @@
 pub mod Algebra
+pub mod Derived
+pub mod Firsts
 pub mod Orders
 pub mod Quotients
+pub mod Weights

@@ -1,14 +1,17 @@
 -- The quotient taken down and up: what the code computes it by, and what a multiple of it comes to. Assumes nothing.
 use mathlib.Core.Path.{_≡_, refl, sym, ap, _∙_}
-use mathlib.Core.Bool.{Bool, true, false}
+use mathlib.Core.Bool.{Bool, true}
+use mathlib.Core.Logic.{inl, inr}
 use Prim.Native.Nat.{ℕ, zero, suc, _+_, _-_, _*_, _/_, _%_, _<_, _≤_}
 use native.Mathlib.Nat.{mul-add, mul-comm, add-mul, mod-lt, mul-div-le, div-add-mod, div-add-mod', div-eq-of-lt-le, zero-div, zero-mod, div-le-self, mod-le}
 use native.Mathlib.Omega.{arith}
 use lib.IntN.{ℤ, pos, negsuc, negℤ, natAbs, negℤ-negℤ, _+ℤ_, _-ℤ_, _*ℤ_}
 use lib.Signed.{leZ, ltZ, quotZ, remZ, _≤ℤ_, _<ℤ_}
 use borrow.Author.Differences.{ints}
-use Rattle.rankings.specs.Costs.{floor, ceil}
-use Rattle.rankings.proofs.Algebra.{neg-times}
+use Rattle.rankings.specs.Costs.{Cost, times, floor, ceil}
+use Rattle.rankings.specs.Laws.{Rounds}
+use Rattle.rankings.specs.Models.{both-down, both-up}
+use Rattle.rankings.proofs.Algebra.{mul-neg}
 
 -- one more than a is no multiple of b, or is one
 div-between : (a b : ℕ) → 0 < b → 0 < suc a % b → a / b ≡ suc a / b
@@ -43,7 +46,7 @@ floor-below (pos a) m h = omega (arith, ints, mul-div-le a m)
 floor-below (negsuc a) m h = omega (arith, ints, div-add-mod a m, mod-lt a h, mul-add m (a / m) 1)
 
 pub ceil-above : (z : ℤ) (m : ℕ) → 0 < m → z ≤ℤ (pos m *ℤ ceil z m)
-ceil-above z m h = omega (arith, ints, floor-below (negℤ z) m h, neg-times m (floor (negℤ z) m))
+ceil-above z m h = omega (arith, ints, floor-below (negℤ z) m h, mul-neg m (floor (negℤ z) m))
 
 -- rounded up, by the same remainder: the quotient and the remainder of the negation are the negations
 neg-quot : (x m : ℤ) → pos 1 ≤ℤ m → (quotZ (negℤ x) m ≡ negℤ (quotZ x m)) × (remZ (negℤ x) m ≡ negℤ (remZ x m))
@@ -75,3 +78,12 @@ floor-within x (negsuc b) h = absurd (omega (arith, ints))
 
 pub ceil-within : (x m : ℤ) → pos 1 ≤ℤ m → natAbs (ceil x (natAbs m)) ≤ natAbs x
 ceil-within x m h = omega (arith, ints, floor-within (negℤ x) m h)
+
+-- Taken down and up, both parts round for any relation by which what is no more in either part is no dearer
+pub rounds-by-parts : (le : Cost → Cost → Bool) → ((a b : Cost) → a .0 ≤ℤ b .0 → a .1 ≤ℤ b .1 → le a b ≡ true) → Rounds le both-down both-up
+rounds-by-parts le mono = record {
+  cheap-parts = λ c m h k f. record { first = inl refl; second = inl refl };
+  dear-parts = λ c m h k f. record { first = inr refl; second = inr refl };
+  cheap-below = λ c m h k f. mono (times m (both-down c m)) c (floor-below (c .0) m h) (floor-below (c .1) m h);
+  dear-above = λ c m h k f. mono c (times m (both-up c m)) (ceil-above (c .0) m h) (ceil-above (c .1) m h);
+}

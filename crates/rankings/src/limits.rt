@@ -8,4 +8,5 @@ pub const LARGEST_DIVISOR: i64 = 1_000_000;
 
 // What a minute weighs, in cents: a rate outside these counts as the nearer of them.
 pub const SMALLEST_RATE: i64 = 1;
+
 pub const LARGEST_RATE: i64 = 200;

@@ -1,6 +1,5 @@
 // Money only.
 ghost use Rattle.rankings.specs.Models.{by-money, both-down, both-up};
-
 use crate::division::round_down;
 use crate::division::round_up;
 use crate::ranking::Ranking;
