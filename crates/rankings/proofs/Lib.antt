@@ -3,4 +3,5 @@ pub mod Derived
 pub mod Firsts
 pub mod Orders
 pub mod Quotients
+pub mod Sizes
 pub mod Weights

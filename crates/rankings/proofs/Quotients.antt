@@ -8,10 +8,10 @@ use native.Mathlib.Omega.{arith}
 use lib.IntN.{ℤ, pos, negsuc, negℤ, natAbs, negℤ-negℤ, _+ℤ_, _-ℤ_, _*ℤ_}
 use lib.Signed.{leZ, ltZ, quotZ, remZ, _≤ℤ_, _<ℤ_}
 use borrow.Author.Differences.{ints}
-use Rattle.rankings.specs.Costs.{Cost, times, floor, ceil}
+use Rattle.rankings.specs.Costs.{Cost, times, Down, Up, floor, ceil}
 use Rattle.rankings.specs.Laws.{Rounds}
 use Rattle.rankings.specs.Models.{both-down, both-up}
-use Rattle.rankings.proofs.Algebra.{mul-neg}
+use Rattle.rankings.proofs.Algebra.{mul-neg, mul-sum}
 
 -- one more than a is no multiple of b, or is one
 div-between : (a b : ℕ) → 0 < b → 0 < suc a % b → a / b ≡ suc a / b
@@ -45,8 +45,25 @@ pub floor-below : (z : ℤ) (m : ℕ) → 0 < m → (pos m *ℤ floor z m) ≤�
 floor-below (pos a) m h = omega (arith, ints, mul-div-le a m)
 floor-below (negsuc a) m h = omega (arith, ints, div-add-mod a m, mod-lt a h, mul-add m (a / m) 1)
 
+floor-next : (z : ℤ) (m : ℕ) → 0 < m → z <ℤ (pos m *ℤ (floor z m +ℤ pos 1))
+floor-next (pos a) m h = omega (arith, ints, mul-sum m (pos (a / m)) (pos 1), div-add-mod a m, mod-lt a h)
+floor-next (negsuc a) m h = omega (arith, ints, mul-sum m (negsuc (a / m)) (pos 1), mul-add m (a / m) 1, mul-div-le a m)
+
+pub floor-down : (z : ℤ) (m : ℕ) → 0 < m → Down z m (floor z m)
+floor-down z m h = record { this = floor-below z m h; next = floor-next z m h }
+
 pub ceil-above : (z : ℤ) (m : ℕ) → 0 < m → z ≤ℤ (pos m *ℤ ceil z m)
 ceil-above z m h = omega (arith, ints, floor-below (negℤ z) m h, mul-neg m (floor (negℤ z) m))
+
+back : (z : ℤ) → negℤ (z +ℤ pos 1) ≡ negℤ z -ℤ pos 1
+back z = omega (arith, ints)
+
+pub ceil-up : (z : ℤ) (m : ℕ) → 0 < m → Up z m (ceil z m)
+ceil-up z m h =
+    let f = floor (negℤ z) m in
+    let n : negℤ z <ℤ (pos m *ℤ (f +ℤ pos 1)) = floor-next (negℤ z) m h in
+    let e : pos m *ℤ (negℤ f -ℤ pos 1) ≡ negℤ (pos m *ℤ (f +ℤ pos 1)) = rw (← back f) (mul-neg m (f +ℤ pos 1)) in
+    record { this = ceil-above z m h; last = rw e (omega (arith, ints)) }
 
 -- rounded up, by the same remainder: the quotient and the remainder of the negation are the negations
 neg-quot : (x m : ℤ) → pos 1 ≤ℤ m → (quotZ (negℤ x) m ≡ negℤ (quotZ x m)) × (remZ (negℤ x) m ≡ negℤ (remZ x m))

@@ -1,12 +1,12 @@
 -- The weight of a cost at a rate. Assumes nothing.
 use mathlib.Core.Path.{_≡_, sym, ap, _∙_}
-use Prim.Native.Nat.{ℕ, _*_, _≤_}
-use native.Mathlib.Nat.{mul-le-mul, mul-le-mul-left}
+use Prim.Native.Nat.{ℕ, _≤_}
+use native.Mathlib.Nat.{mul-le-mul-left}
 use native.Mathlib.Omega.{arith}
-use lib.IntN.{ℤ, pos, negsuc, natAbs, _+ℤ_, _*ℤ_}
+use lib.IntN.{ℤ, pos, negsuc, _+ℤ_, _*ℤ_}
 use lib.Signed.{_≤ℤ_}
 use borrow.Author.Differences.{ints, le-out}
-use Rattle.rankings.specs.Costs.{Cost, plus, times, ranked-part}
+use Rattle.rankings.specs.Costs.{Cost, plus, times}
 use Rattle.rankings.specs.Models.{counted-rate, weight}
 use Rattle.rankings.proofs.Algebra.{mul-sum, mul-swap}
 use Rattle.rankings.proofs.Orders.{scaled}
@@ -20,11 +20,6 @@ weight-times r k a = ap (λ (z : ℤ). pos k *ℤ a .0 +ℤ z) (mul-swap r k (a 
 -- what is no more in either part weighs no more
 pub weight-mono : (r : ℕ) (a b : Cost) → a .0 ≤ℤ b .0 → a .1 ≤ℤ b .1 → weight r a ≤ℤ weight r b
 weight-mono r a b p q = omega (arith, ints, scaled r (a .1) (b .1), scaled r (b .1) (a .1), mul-le-mul-left r (le-out (a .1) (b .1) q))
-
--- the minutes of a modest cost, weighed, are far from the bounds of 64 bits
-pub weighed-within : (r : ℕ) (z : ℤ) → r ≤ 200 → natAbs z ≤ ranked-part → natAbs (pos r *ℤ z) ≤ 200 * ranked-part
-weighed-within r (pos n) p q = mul-le-mul p q
-weighed-within r (negsuc n) p q = omega (arith, ints, mul-le-mul p q)
 
 pub counted-small : (rate : ℤ) → counted-rate rate ≤ 200
 counted-small (pos r) = omega arith

@@ -1,7 +1,8 @@
 -- Costs, and what is reckoned with them. A cost is two whole numbers of any size and sign: the first part is money, in
 -- cents, and the second is time, in minutes. Assumes nothing.
 use Prim.Native.Nat.{ℕ, _/_, _≤_, _^_}
-use lib.IntN.{ℤ, pos, negsuc, negℤ, natAbs, _+ℤ_, _*ℤ_}
+use lib.IntN.{ℤ, pos, negsuc, negℤ, natAbs, _+ℤ_, _-ℤ_, _*ℤ_}
+use lib.Signed.{_<ℤ_, _≤ℤ_}
 
 -- first part and second part
 abbrev pub Cost : Type 0
@@ -27,9 +28,13 @@ negated a = (negℤ (a .0), negℤ (a .1))
 abbrev pub ranked-part : ℕ
 ranked-part = 10 ^ 16
 
--- each part is of a magnitude that a ranking is asked about
+-- each part is of a magnitude of at most b
+abbrev pub Within : ℕ → Cost → Type 0
+Within b c = (natAbs (c .0) ≤ b) × (natAbs (c .1) ≤ b)
+
+-- a ranking may be asked about the cost
 abbrev pub Modest : Cost → Type 0
-Modest c = (natAbs (c .0) ≤ ranked-part) × (natAbs (c .1) ≤ ranked-part)
+Modest c = Within ranked-part c
 
 -- z / m taken down to a whole number: below zero, to the one further from zero
 abbrev pub floor : ℤ → ℕ → ℤ
@@ -39,3 +44,13 @@ floor (negsuc a) m = negsuc (a / m)
 -- z / m taken up to a whole number: below zero, to the one nearer to zero
 abbrev pub ceil : ℤ → ℕ → ℤ
 ceil z m = negℤ (floor (negℤ z) m)
+
+-- q is z / m taken down: the largest whole number that m times comes to z or less
+pub record Down (z : ℤ) (m : ℕ) (q : ℤ) : Type 0 where
+  pub this : (pos m *ℤ q) ≤ℤ z
+  pub next : z <ℤ (pos m *ℤ (q +ℤ pos 1))
+
+-- q is z / m taken up: the smallest whole number that m times comes to z or more
+pub record Up (z : ℤ) (m : ℕ) (q : ℤ) : Type 0 where
+  pub this : z ≤ℤ (pos m *ℤ q)
+  pub last : (pos m *ℤ (q -ℤ pos 1)) <ℤ z

@@ -4,13 +4,14 @@ ghost use mathlib.Core.Path.{_≡_};
 ghost use Prim.Native.Nat.{_≤_};
 ghost use lib.IntN.{pos, natAbs};
 ghost use lib.Signed.{_≤ℤ_};
-ghost use Rattle.rankings.specs.Costs.{Modest, floor, ceil, ranked-part};
+ghost use Rattle.rankings.specs.Costs.{Modest, Down, Up, floor, ceil, ranked-part};
 ghost use Rattle.rankings.specs.Models.{both-down, both-up};
 
 // x / m taken down to a whole number.
 pub fn floor_div(x: i64, m: i64) -> i64
     requires { ⌜ natAbs x ≤ ranked-part ⌝ ∗ ⌜ pos 1 ≤ℤ m ⌝ ∗ ⌜ m ≤ℤ pos 1_000_000 ⌝ }
     ensures is { λ r. ⌜ r ≡ floor x (natAbs m) ⌝ }
+    ensures down { λ r. ⌜ Down x (natAbs m) r ⌝ }
     ensures small { λ r. ⌜ natAbs r ≤ natAbs x ⌝ }
 {
     let quotient = x / m;
@@ -21,6 +22,7 @@ pub fn floor_div(x: i64, m: i64) -> i64
 pub fn ceil_div(x: i64, m: i64) -> i64
     requires { ⌜ natAbs x ≤ ranked-part ⌝ ∗ ⌜ pos 1 ≤ℤ m ⌝ ∗ ⌜ m ≤ℤ pos 1_000_000 ⌝ }
     ensures is { λ r. ⌜ r ≡ ceil x (natAbs m) ⌝ }
+    ensures up { λ r. ⌜ Up x (natAbs m) r ⌝ }
     ensures small { λ r. ⌜ natAbs r ≤ natAbs x ⌝ }
 {
     let quotient = x / m;

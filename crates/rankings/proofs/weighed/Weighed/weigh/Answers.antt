@@ -8,13 +8,14 @@ use mir.Val.{SFits, toZ, ofZ}
 use Rattle.std.proofs.shelf.Signed.{ints, toZ-ofZ}
 use Rattle.rankings.specs.Costs.{ranked-part}
 use Rattle.rankings.specs.Models.{counted-rate, weight}
-use Rattle.rankings.proofs.Weights.{weighed-within, counted-small}
+use Rattle.rankings.proofs.Sizes.{part-times}
+use Rattle.rankings.proofs.Weights.{counted-small}
 use Rattle.rankings.proofs.weighed.Weighed.weigh.Needs as need
 
 -- a price p, which is the rate r, and the parts x and z of a cost
 module _ (p x z : ℤ) (r : ℕ) (e : p ≡ pos r) (small : r ≤ 200) (h : natAbs x ≤ ranked-part) (k : natAbs z ≤ ranked-part) where
   within : natAbs (p *ℤ z) ≤ 200 * ranked-part
-  within = rw e (weighed-within r z small k)
+  within = rw e (part-times r 200 ranked-part z small k)
 
   fits-x : SFits w64 x
   fits-x = omega (arith, ints)
