@@ -1,0 +1,23 @@
+use mathlib.Core.Path.{refl}
+use native.Mathlib.Omega.{arith}
+use lib.IntN.{pos}
+use Rattle.std.proofs.shelf.Signed.{ints}
+use Rattle.rankings.proofs.Orders.{leZ-adds, leZ-scales}
+use Rattle.rankings.proofs.Weights.{weight-plus, weight-times}
+use Rattle.rankings.proofs.weighed.WeighedRanking.the-impl.Needs as need
+
+pub ordered-law : need.ordered-law
+ordered-law s = record {
+  total = λ a b d. grind (arith, ints);
+  trans = λ a b c p q. grind (arith, ints);
+}
+
+pub linear-law : need.linear-law
+linear-law s = record {
+  adds = λ a b c e. simp (weight-plus, leZ-adds) e;
+  scales = λ k a b h e. simp (weight-times, leZ-scales) e;
+  scales-opposite = λ k a b h d. simp (weight-times, leZ-scales) d;
+}
+
+pub some-law : need.some-law
+some-law s = ((pos 1, pos 0), grind (arith, ints))

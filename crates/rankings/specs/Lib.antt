@@ -1,0 +1,4 @@
+pub mod Choice
+pub mod Costs
+pub mod Laws
+pub mod Models
