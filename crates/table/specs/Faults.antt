@@ -63,10 +63,18 @@ abbrev pub orElse : Option ℕ → (ℕ → TableFault) → Option TableFault �
 orElse (Some k) at later = Some (at k)
 orElse None at later = later
 
+-- the first fault of the kinds from one on, each over the whole table before the next
+abbrev pub weightFault : Table → Option TableFault
+weightFault t = orElse (lowest (unbalanced t) (t .rows)) Weights None
+
+abbrev pub looseArcFault : Table → Option TableFault
+looseArcFault t = orElse (lowest (loose (reachedArcs t)) (t .arcs)) LooseArc (weightFault t)
+
+abbrev pub arcPointerFault : Table → Option TableFault
+arcPointerFault t = orElse (lowest (mispointed (arcPointers t)) (t .arcs)) ArcPointers (looseArcFault t)
+
+abbrev pub looseRowFault : Table → Option TableFault
+looseRowFault t = orElse (lowest (loose (reachedRows t)) (t .rows)) LooseRow (arcPointerFault t)
+
 abbrev pub tableFault : Table → Option TableFault
-tableFault t =
-    orElse (lowest (mispointed (rowPointers t)) (t .rows)) RowPointers
-    (orElse (lowest (loose (reachedRows t)) (t .rows)) LooseRow
-    (orElse (lowest (mispointed (arcPointers t)) (t .arcs)) ArcPointers
-    (orElse (lowest (loose (reachedArcs t)) (t .arcs)) LooseArc
-    (orElse (lowest (unbalanced t) (t .rows)) Weights None))))
+tableFault t = orElse (lowest (mispointed (rowPointers t)) (t .rows)) RowPointers (looseRowFault t)
