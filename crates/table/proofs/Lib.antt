@@ -5,3 +5,4 @@ pub mod Reaches
 pub mod Means
 pub mod Faultless
 pub mod Magnitudes
+pub mod Pairs

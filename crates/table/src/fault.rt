@@ -12,3 +12,14 @@ pub enum TableFault {
     /// 8: the weights of this row's arcs do not sum to the total.
     Weights { row: usize },
 }
+
+/// Which rule the figures break, and at which grade and row: layer 3.
+#[derive(Clone, Copy)]
+pub enum FiguresFault {
+    /// 9: the plan row is not one of the grade's rows.
+    PlanRow { grade: usize, row: usize },
+    /// 10: the floor is above what this row allows.
+    Floor { grade: usize, row: usize },
+    /// 11: the ceiling is below what the plan row needs.
+    Ceiling { grade: usize, row: usize },
+}

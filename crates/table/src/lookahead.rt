@@ -1,5 +1,5 @@
 ghost use mathlib.Core.Path.{_≡_};
-ghost use Rattle.rankings.specs.Costs.{Modest, Within as Sized};
+ghost use Rattle.rankings.specs.Costs.{Modest, Within as Sized, times};
 ghost use Prim.Native.Nat.{_*_, _^_};
 ghost use Rattle.table.specs.Ranges.{Within};
 ghost use Rattle.table.specs.Chains.{arcsOf};
@@ -45,4 +45,14 @@ pub fn lookahead(sound: &SoundTable, k: usize, figures: &Column) -> Option<(i64,
     let now = scale(scaling, table.row[k - 1].cost);
     let later = scale(table.numerator, weighted_sum(sound, k, figures));
     Some(add(now, later))
+}
+
+/// b · D times the figure of the grade g, as it is compared with X.
+pub(crate) fn scaled_figure(sound: &SoundTable, g: usize, figures: &Column) -> (i64, i64)
+    requires { ⌜ Within 1 (now sound .table .grades) g ⌝ }
+    ensures is { λ r. ⌜ r ≡ times (scaling (now (sound .entry) .table)) (figureAt (now (figures .entry) .at) g) ⌝ }
+    ensures modest { λ r. ⌜ Modest r ⌝ }
+{
+    let scaling = sound.table.denominator * sound.table.total;
+    scale(scaling, figures.at[g - 1])
 }
