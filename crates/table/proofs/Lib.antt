@@ -6,3 +6,4 @@ pub mod Means
 pub mod Faultless
 pub mod Magnitudes
 pub mod Pairs
+pub mod Lookaheads

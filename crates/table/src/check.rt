@@ -33,7 +33,7 @@ pub fn first_fault(table: &Table) -> Option<TableFault>
 }
 
 /// The table as one that has no fault, or its first fault.
-pub fn check(table: &Table) -> Result<SoundTable, TableFault>
+pub fn check_table(table: &Table) -> Result<SoundTable, TableFault>
     ensures { λ r. ⌜ Checked (now (table .entry)) r ⌝ }
 {
     match first_fault(table) {

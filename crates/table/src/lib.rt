@@ -1,10 +1,10 @@
 //! One shop's table, its check, and the figures that a plan is shown with.
+mod ahead;
 mod check;
 mod counts;
 mod fault;
 mod figures;
 mod limits;
-mod lookahead;
 mod plan;
 mod pointers;
 mod reach;
@@ -14,6 +14,8 @@ mod sound;
 mod table;
 mod weights;
 
+pub use ahead::lookahead;
+pub use check::check_table;
 pub use check::first_fault;
 pub use fault::FiguresFault;
 pub use fault::TableFault;

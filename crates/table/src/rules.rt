@@ -7,8 +7,8 @@ ghost use Rattle.table.specs.Rules.{has, keepsFloor, keepsCeiling, firstStray,
 use crate::fault::FiguresFault;
 use crate::figures::Column;
 use crate::limits::MAX_GRADES;
-use crate::lookahead::lookahead;
-use crate::lookahead::scaled_figure;
+use crate::ahead::lookahead;
+use crate::ahead::scaled_figure;
 use crate::plan::Figures;
 use crate::sound::SoundTable;
 use crate::table::Table;

@@ -1,15 +1,13 @@
 use mathlib.Core.Path.{_≡_, sym, ap, _∙_}
-use mathlib.Core.Bool.{true}
 use Prim.Native.Nat.{_*_, _^_}
 use native.Mathlib.Omega.{arith}
-use lib.Dec.{leb}
-use Rattle.std.specs.declared.option.Option.the-variants.{Some, None}
-use Rattle.std.proofs.shelf.Tests.{and-from, le-leb, cond-true}
+use Rattle.std.specs.declared.option.Option.the-variants.{Some}
 use Rattle.rankings.specs.Costs.{Within, Modest, plus, times}
 use Rattle.table.specs.Chains.{rowAt}
-use Rattle.table.specs.Lookahead.{scaling, figureAt, X, isRow}
+use Rattle.table.specs.Lookahead.{scaling, figureAt, X}
 use Rattle.table.proofs.Magnitudes.{fine-≤, own-within, own-modest, later-within, later-modest, both-within, scaled-modest}
-use Rattle.table.proofs.lookahead.lookahead.Needs as need
+use Rattle.table.proofs.Lookaheads.{ahead-some}
+use Rattle.table.proofs.ahead.lookahead.Needs as need
 
 pub mul-scaling-2 : need.mul-scaling-2
 mul-scaling-2 c = omega (arith, fine-≤ (c .args .sound .now .table))
@@ -42,9 +40,8 @@ returns c =
     let later = times (t .numerator) (c .weighted-sum .result) in
     let sum = c .add .ensures .is ∙ (λ i. plus (c .scale-now .ensures .is i) (c .scale-later .ensures .is i)) in
     let is : c .add .result ≡ X t k w = sum ∙ ap (λ s. plus own (times (t .numerator) s)) (c .weighted-sum .ensures .is) in
-    let row : isRow t k ≡ true = and-from (leb 1 k) (leb k (t .rows)) (le-leb 1 k (omega arith)) (le-leb k (t .rows) (omega arith)) in
     record {
-      is = ap Some is ∙ sym (cond-true (isRow t k) (Some (X t k w)) None row);
+      is = ap Some is ∙ sym (ahead-some t k w (omega arith, omega arith));
       within = rw sum (both-within t own later (own-within t k (omega arith, omega arith)) (later-within t (c .weighted-sum .result) (c .weighted-sum .ensures .within)));
       modest = c .add .ensures .modest;
     }

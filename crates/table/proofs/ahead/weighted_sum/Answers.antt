@@ -9,7 +9,7 @@ use Rattle.table.specs.Lookahead.{figureAt, mean}
 use Rattle.table.proofs.Walks.{walk-in, walk-end}
 use Rattle.table.proofs.Faultless.{balanced}
 use Rattle.table.proofs.Means.{Budget, budget-start, budget-within, budget-step, figure-within}
-use Rattle.table.proofs.lookahead.weighted_sum.Needs as need
+use Rattle.table.proofs.ahead.weighted_sum.Needs as need
 
 pub loop-turn-holds : need.loop-turn-holds
 loop-turn-holds c =

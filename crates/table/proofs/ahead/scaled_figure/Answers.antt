@@ -4,7 +4,7 @@ use Rattle.rankings.specs.Costs.{times}
 use Rattle.rankings.proofs.Sizes.{times-within}
 use Rattle.table.specs.Lookahead.{figureAt, scaling}
 use Rattle.table.proofs.Magnitudes.{scaled-modest}
-use Rattle.table.proofs.lookahead.scaled_figure.Needs as need
+use Rattle.table.proofs.ahead.scaled_figure.Needs as need
 
 pub scale-requires : need.scale-requires
 scale-requires c κs =

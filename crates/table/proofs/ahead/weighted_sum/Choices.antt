@@ -4,7 +4,7 @@ use Rattle.rankings.specs.Costs.{plus}
 use Rattle.table.specs.Chains.{walk, nextArc, arcsOf, weights}
 use Rattle.table.specs.Lookahead.{figureAt, mean}
 use Rattle.table.proofs.Means.{Budget}
-use Rattle.table.proofs.lookahead.weighted_sum.Given as given
+use Rattle.table.proofs.ahead.weighted_sum.Given as given
 
 abbrev pub Inv-loop-turn : given.InvT-loop-turn
 Inv-loop-turn l = (l .at ≤ l .sound .table .arcs)

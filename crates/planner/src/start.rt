@@ -1,0 +1,60 @@
+ghost use mathlib.Core.Path.{_≡_};
+ghost use lib.ListN.{replicate};
+ghost use Prim.Native.Nat.{_*_};
+ghost use Rattle.rankings.specs.Costs.{Within as Sized};
+ghost use Rattle.planner.specs.Start.{cheapestCost, dearestCost, startFigure};
+use rankings::Ranking;
+use rankings::cheaper;
+use rankings::dearer;
+use rankings::scale;
+use table::Column;
+use table::Figures;
+use table::MAX_GRADES;
+use table::SoundTable;
+use table::Table;
+
+/// The cheapest of zero and all row costs; among equals zero, then the lowest row.
+fn cheapest_cost<R: Ranking>(ranking: &R, table: &Table) -> (i64, i64)
+    ensures is { λ r. ⌜ r ≡ cheapestCost (ranks (now (ranking .entry))) (now (table .entry)) ⌝ }
+    ensures within { λ r. ⌜ Sized 100000 r ⌝ }
+{
+    let mut best = (0, 0);
+    for i in 0..table.rows {
+        if cheaper(ranking, table.row[i].cost, best) {
+            best = table.row[i].cost;
+        }
+    }
+    best
+}
+
+/// The dearest of zero and all row costs; among equals zero, then the lowest row.
+fn dearest_cost<R: Ranking>(ranking: &R, table: &Table) -> (i64, i64)
+    ensures is { λ r. ⌜ r ≡ dearestCost (ranks (now (ranking .entry))) (now (table .entry)) ⌝ }
+    ensures within { λ r. ⌜ Sized 100000 r ⌝ }
+{
+    let mut worst = (0, 0);
+    for i in 0..table.rows {
+        if dearer(ranking, table.row[i].cost, worst) {
+            worst = table.row[i].cost;
+        }
+    }
+    worst
+}
+
+/// The figures that every plan starts from: the same floor and the same ceiling for each grade, and its first row.
+pub fn start_figures<R: Ranking>(ranking: &R, sound: &SoundTable) -> Figures
+    ensures rows { λ r. ⌜ r .row ≡ now (sound .entry) .table .«first_row» ⌝ }
+    ensures floors { λ r. ⌜ r .floor .at ≡ replicate 32 (startFigure (now (sound .entry) .table) (cheapestCost (ranks (now (ranking .entry))) (now (sound .entry) .table))) ⌝ }
+    ensures ceilings { λ r. ⌜ r .ceiling .at ≡ replicate 32 (startFigure (now (sound .entry) .table) (dearestCost (ranks (now (ranking .entry))) (now (sound .entry) .table))) ⌝ }
+{
+    let table = &sound.table;
+    let unit = table.fineness * table.denominator;
+    let lowest = scale(unit, cheapest_cost(ranking, table));
+    let highest = scale(unit, dearest_cost(ranking, table));
+    let row = table.first_row;
+    let floors = [lowest; MAX_GRADES];
+    let ceilings = [highest; MAX_GRADES];
+    let floor = Column { at: floors };
+    let ceiling = Column { at: ceilings };
+    Figures { row, floor, ceiling }
+}
