@@ -1,6 +1,7 @@
 //! Plans for a sound table: figures to start from, and sweeps that draw floors and ceilings together.
 mod choice;
 mod start;
+mod sweep;
 
 pub use choice::Choice;
 pub use choice::cheapest_row;

@@ -1,0 +1,43 @@
+ghost use mathlib.Core.Path.{_≡_};
+ghost use lib.IntN.{pos};
+ghost use Rattle.std.specs.Slices.{found};
+ghost use Rattle.table.specs.Ranges.{Within, FigureIn};
+ghost use Rattle.table.specs.Lookahead.{figureAt, scaling};
+ghost use Rattle.planner.specs.Sweeps.{raised, lowered, shown, sweepOf, moves, sweeps};
+use crate::choice::Choice;
+use crate::choice::cheapest_row;
+use rankings::Rounding;
+use rankings::cheaper;
+use rankings::dearer;
+use table::Column;
+use table::Figures;
+use table::SoundTable;
+
+/// b · D, by which X is divided to give a figure.
+fn divisor(sound: &SoundTable) -> i64
+    ensures { λ r. ⌜ r ≡ pos (scaling (now (sound .entry) .table)) ⌝ }
+{
+    i64::from(sound.table.denominator * sound.table.total)
+}
+
+/// The floor of the grade g after a sweep, if the sweep raises it.
+fn raised_floor<R: Rounding>(ranking: &R, sound: &SoundTable, g: usize, floors: &Column) -> Option<(i64, i64)>
+    requires { ⌜ Within 1 (now sound .table .grades) g ⌝ }
+    ensures is { λ r. ⌜ r ≡ raised (R·Ranking .ranks (now (ranking .entry))) (cheap (now (ranking .entry))) (dear (now (ranking .entry))) (now (sound .entry) .table) (figureAt (now (floors .entry) .at)) g ⌝ }
+    ensures within { λ r. ⌜ found r FigureIn ⌝ }
+{
+    let best = cheapest_row(ranking, sound, g, floors)?;
+    let floor = ranking.round_cheap(best.cost, divisor(sound));
+    if dearer(ranking, floor, floors.at[g - 1]) { Some(floor) } else { None }
+}
+
+/// The ceiling of the grade g after a sweep with the row that it is for, if the sweep lowers it.
+fn lowered_ceiling<R: Rounding>(ranking: &R, sound: &SoundTable, g: usize, ceilings: &Column) -> Option<Choice>
+    requires { ⌜ Within 1 (now sound .table .grades) g ⌝ }
+    ensures is { λ r. ⌜ r ≡ lowered (R·Ranking .ranks (now (ranking .entry))) (cheap (now (ranking .entry))) (dear (now (ranking .entry))) (now (sound .entry) .table) (figureAt (now (ceilings .entry) .at)) g ⌝ }
+    ensures within { λ r. ⌜ found r (λ c. FigureIn (c .cost)) ⌝ }
+{
+    let best = cheapest_row(ranking, sound, g, ceilings)?;
+    let cost = ranking.round_dear(best.cost, divisor(sound));
+    if cheaper(ranking, cost, ceilings.at[g - 1]) { Some(Choice { row: best.row, cost }) } else { None }
+}
