@@ -1,3 +1,4 @@
 pub mod Costs
 pub mod Cheapest
 pub mod Roundings
+pub mod Columns

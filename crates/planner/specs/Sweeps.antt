@@ -68,12 +68,15 @@ module _ (le : Cost → Cost → Bool) (cheap dear : Cost → ℕ → Cost) (t :
     ceilings = applied (loweredCost (figureAt (s .ceilings))) (t .grades) (s .ceilings);
   }
 
-  -- whether a sweep changes the floor or the ceiling of a grade
-  abbrev pub movesAt : Shown → ℕ → Bool
-  movesAt s g = isSome (raised (figureAt (s .floors)) g) || isSome (lowered (figureAt (s .ceilings)) g)
+  -- whether a sweep changes some floor, or some ceiling
+  abbrev pub floorsMove : List Cost → ℕ → Bool
+  floorsMove ws n = anyOf (λ g. isSome (raised (figureAt ws) g)) n
+
+  abbrev pub ceilingsMove : List Cost → ℕ → Bool
+  ceilingsMove ws n = anyOf (λ g. isSome (lowered (figureAt ws) g)) n
 
   abbrev pub moves : Shown → Bool
-  moves s = anyOf (movesAt s) (t .grades)
+  moves s = floorsMove (s .floors) (t .grades) || ceilingsMove (s .ceilings) (t .grades)
 
   -- n sweeps, or up to the first that changes nothing: the figures, the sweeps run, and whether the last changed none
   abbrev pub sweeps : ℕ → Shown → Shown × (ℕ × Bool)

@@ -3,7 +3,7 @@ ghost use lib.IntN.{pos};
 ghost use Rattle.std.specs.Slices.{found};
 ghost use Rattle.table.specs.Ranges.{Within, FigureIn};
 ghost use Rattle.table.specs.Lookahead.{figureAt, scaling};
-ghost use Rattle.planner.specs.Sweeps.{raised, lowered, shown, sweepOf, moves, sweeps};
+ghost use Rattle.planner.specs.Sweeps.{applied, raised, lowered, loweredRow, loweredCost, floorsMove, ceilingsMove, shown, sweepOf, moves};
 use crate::choice::Choice;
 use crate::choice::cheapest_row;
 use rankings::Rounding;
@@ -11,6 +11,7 @@ use rankings::cheaper;
 use rankings::dearer;
 use table::Column;
 use table::Figures;
+use table::MAX_GRADES;
 use table::SoundTable;
 
 /// b · D, by which X is divided to give a figure.
@@ -40,4 +41,54 @@ fn lowered_ceiling<R: Rounding>(ranking: &R, sound: &SoundTable, g: usize, ceili
     let best = cheapest_row(ranking, sound, g, ceilings)?;
     let cost = ranking.round_dear(best.cost, divisor(sound));
     if cheaper(ranking, cost, ceilings.at[g - 1]) { Some(Choice { row: best.row, cost }) } else { None }
+}
+
+/// All floors after a sweep, and whether some floor changed.
+fn swept_floors<R: Rounding>(ranking: &R, sound: &SoundTable, floors: &Column) -> (Column, bool)
+    ensures after { λ r. ⌜ r .0 .at ≡ applied (raised (R·Ranking .ranks (now (ranking .entry))) (cheap (now (ranking .entry))) (dear (now (ranking .entry))) (now (sound .entry) .table) (figureAt (now (floors .entry) .at))) (now (sound .entry) .table .grades) (now (floors .entry) .at) ⌝ }
+    ensures moved { λ r. ⌜ r .1 ≡ floorsMove (R·Ranking .ranks (now (ranking .entry))) (cheap (now (ranking .entry))) (dear (now (ranking .entry))) (now (sound .entry) .table) (now (floors .entry) .at) (now (sound .entry) .table .grades) ⌝ }
+{
+    let mut at = floors.at;
+    let mut moved = false;
+    for i in 0..sound.table.grades {
+        match raised_floor(ranking, sound, i + 1, floors) {
+            Some(floor) => {
+                at[i] = floor;
+                moved = true;
+            }
+            None => {}
+        }
+    }
+    (Column { at }, moved)
+}
+
+/// What one sweep comes to.
+#[derive(Clone, Copy)]
+pub struct Sweep {
+    pub figures: Figures,
+    /// Whether some floor or ceiling changed.
+    pub moved: bool,
+}
+
+/// One sweep: each new figure is reckoned from the figures before it, and none from another new one.
+pub fn sweep_once<R: Rounding>(ranking: &R, sound: &SoundTable, figures: &Figures) -> Sweep
+    ensures after { λ r. ⌜ shown (r .figures) ≡ sweepOf (R·Ranking .ranks (now (ranking .entry))) (cheap (now (ranking .entry))) (dear (now (ranking .entry))) (now (sound .entry) .table) (shown (now (figures .entry))) ⌝ }
+    ensures moved { λ r. ⌜ r .moved ≡ moves (R·Ranking .ranks (now (ranking .entry))) (cheap (now (ranking .entry))) (dear (now (ranking .entry))) (now (sound .entry) .table) (shown (now (figures .entry))) ⌝ }
+{
+    let (floor, floors_moved) = swept_floors(ranking, sound, &figures.floor);
+    let mut row = figures.row;
+    let mut at = figures.ceiling.at;
+    let mut ceilings_moved = false;
+    for i in 0..sound.table.grades {
+        match lowered_ceiling(ranking, sound, i + 1, &figures.ceiling) {
+            Some(choice) => {
+                at[i] = choice.cost;
+                row[i] = choice.row;
+                ceilings_moved = true;
+            }
+            None => {}
+        }
+    }
+    let ceiling = Column { at };
+    Sweep { figures: Figures { row, floor, ceiling }, moved: floors_moved || ceilings_moved }
 }

@@ -1,3 +1,5 @@
+ghost use mathlib.Core.Path.{_≡_};
+ghost use lib.ListN.{length};
 ghost use Rattle.table.specs.Ranges.{FiguresIn};
 use crate::limits::MAX_GRADES;
 
@@ -7,4 +9,5 @@ use crate::limits::MAX_GRADES;
 pub struct Column {
     pub at: [(i64, i64); MAX_GRADES],
     ghost within: { FiguresIn at },
+    ghost long: { length at ≡ 32 },
 }

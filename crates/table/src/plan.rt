@@ -1,3 +1,5 @@
+ghost use mathlib.Core.Path.{_≡_};
+ghost use lib.ListN.{length};
 use crate::figures::Column;
 use crate::limits::MAX_GRADES;
 
@@ -8,4 +10,5 @@ pub struct Figures {
     pub row: [usize; MAX_GRADES],
     pub floor: Column,
     pub ceiling: Column,
+    ghost long: { length row ≡ 32 },
 }

@@ -1,4 +1,6 @@
+ghost use mathlib.Core.Path.{_≡_};
 ghost use Prim.Native.Nat.{_<_};
+ghost use lib.ListN.{length};
 ghost use Rattle.table.specs.Ranges.{Within, FirstsIn, RowsIn, ArcsIn};
 use crate::limits::MAX_ARCS;
 use crate::limits::MAX_GRADES;
@@ -35,4 +37,7 @@ pub struct Table {
     ghost firsts: { FirstsIn grades rows «first_row» },
     ghost rowsin: { RowsIn rows arcs row },
     ghost arcsin: { ArcsIn grades arcs total arc },
+    ghost firstlong: { length «first_row» ≡ 32 },
+    ghost rowlong: { length row ≡ 96 },
+    ghost arclong: { length arc ≡ 512 },
 }

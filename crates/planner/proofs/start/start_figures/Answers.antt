@@ -1,4 +1,4 @@
-use mathlib.Core.Path.{_≡_, sym, ap, _∙_}
+use mathlib.Core.Path.{_≡_, refl, sym, ap, _∙_}
 use Prim.Native.Nat.{ℕ, _*_, _^_, _<_, _≤_}
 use native.Mathlib.Nat.{mul-le-mul}
 use native.Mathlib.Omega.{arith}
@@ -31,7 +31,10 @@ scale-highest-requires g c κs =
     within-more (10 ^ 10) (10 ^ 16) (times (t .fineness * t .denominator) x) (omega arith) (start-within t x (c .dearest-cost .ensures .within))
 
 pub ghost-floor : need.ghost-floor
-ghost-floor g c = (every (c .scale-lowest .result) (rw (c .scale-lowest .ensures .is) (start-within (c .args .sound .now .table) (c .cheapest-cost .result) (c .cheapest-cost .ensures .within))), tt)
+ghost-floor g c = (every (c .scale-lowest .result) (rw (c .scale-lowest .ensures .is) (start-within (c .args .sound .now .table) (c .cheapest-cost .result) (c .cheapest-cost .ensures .within))), (refl, tt))
 
 pub ghost-ceiling : need.ghost-ceiling
-ghost-ceiling g c = (every (c .scale-highest .result) (rw (c .scale-highest .ensures .is) (start-within (c .args .sound .now .table) (c .dearest-cost .result) (c .dearest-cost .ensures .within))), tt)
+ghost-ceiling g c = (every (c .scale-highest .result) (rw (c .scale-highest .ensures .is) (start-within (c .args .sound .now .table) (c .dearest-cost .result) (c .dearest-cost .ensures .within))), (refl, tt))
+
+pub ghost-result : need.ghost-result
+ghost-result g c = (c .args .sound .now .table .firstlong, tt)
