@@ -3,7 +3,7 @@ ghost use lib.IntN.{pos};
 ghost use Rattle.std.specs.Slices.{found};
 ghost use Rattle.table.specs.Ranges.{Within, FigureIn};
 ghost use Rattle.table.specs.Lookahead.{figureAt, scaling};
-ghost use Rattle.planner.specs.Sweeps.{applied, raised, lowered, loweredRow, loweredCost, floorsMove, ceilingsMove, shown, sweepOf, moves};
+ghost use Rattle.planner.specs.Sweeps.{applied, raised, lowered, loweredRow, loweredCost, floorsMove, ceilingsMove, shown, sweepOf, moves, sweeps};
 use crate::choice::Choice;
 use crate::choice::cheapest_row;
 use rankings::Rounding;
@@ -91,4 +91,29 @@ pub fn sweep_once<R: Rounding>(ranking: &R, sound: &SoundTable, figures: &Figure
     }
     let ceiling = Column { at };
     Sweep { figures: Figures { row, floor, ceiling }, moved: floors_moved || ceilings_moved }
+}
+
+/// What several sweeps come to.
+#[derive(Clone, Copy)]
+pub struct Swept {
+    pub figures: Figures,
+    /// How many sweeps ran.
+    pub runs: usize,
+    /// Whether the last one changed no floor and no ceiling.
+    pub settled: bool,
+}
+
+/// Sweeps n times, or up to the first sweep that changes no floor and no ceiling.
+pub fn sweep_up_to<R: Rounding>(ranking: &R, sound: &SoundTable, figures: &Figures, n: usize) -> Swept
+    ensures { λ r. ⌜ (shown (r .figures), (r .runs, r .settled)) ≡ sweeps (R·Ranking .ranks (now (ranking .entry))) (cheap (now (ranking .entry))) (dear (now (ranking .entry))) (now (sound .entry) .table) n (shown (now (figures .entry))) ⌝ }
+{
+    let mut figures = *figures;
+    for turn in 0..n {
+        let sweep = sweep_once(ranking, sound, &figures);
+        figures = sweep.figures;
+        if !sweep.moved {
+            return Swept { figures, runs: turn + 1, settled: true };
+        }
+    }
+    Swept { figures, runs: n, settled: false }
 }
