@@ -28,6 +28,10 @@ negated a = (negℤ (a .0), negℤ (a .1))
 abbrev pub ranked-part : ℕ
 ranked-part = 10 ^ 16
 
+-- the largest number that a rounding divides by
+abbrev pub largest-divisor : ℕ
+largest-divisor = 1_000_000
+
 -- each part is of a magnitude of at most b
 abbrev pub Within : ℕ → Cost → Type 0
 Within b c = (natAbs (c .0) ≤ b) × (natAbs (c .1) ≤ b)
