@@ -20,7 +20,7 @@ plus a b = (a .0 +ℤ b .0, a .1 +ℤ b .1)
 abbrev pub times : ℕ → Cost → Cost
 times k a = (pos k *ℤ a .0, pos k *ℤ a .1)
 
--- what a cost and it make zero
+-- the cost that makes zero with a, part by part
 abbrev pub negated : Cost → Cost
 negated a = (negℤ (a .0), negℤ (a .1))
 

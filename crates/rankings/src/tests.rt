@@ -3,6 +3,7 @@
 ghost use mathlib.Core.Path.{_≡_};
 ghost use lib.IntN.{pos, negsuc};
 ghost use Rattle.rankings.specs.Choice.{is-cheaper};
+ghost use Rattle.rankings.specs.Costs.{largest-divisor, ranked-part};
 ghost use Rattle.rankings.specs.Models.{both-down, both-up, by-money, by-money-then-minutes, by-weight, counted-rate};
 use super::*;
 use std::test::*;
@@ -30,6 +31,27 @@ fn rounds_past_zero() -> Result<(), Fail> {
     check_eq(MoneyThenMinutes.round_dear((-7, 7), 2), halves_up())?;
     check_eq(Weighed { rate: 3 }.round_cheap((-7, 7), 2), halves_down())?;
     check_eq(Weighed { rate: 3 }.round_dear((-7, 7), 2), halves_up())
+}
+
+// The code's limits are the definitions'.
+fn ranked_part() -> i64
+    ensures { λ r. ⌜ r ≡ pos ranked-part ⌝ }
+{
+    RANKED_PART
+}
+
+fn largest_divisor() -> i64
+    ensures { λ r. ⌜ r ≡ pos largest-divisor ⌝ }
+{
+    LARGEST_DIVISOR
+}
+
+#[test]
+fn rounds_at_the_limits() -> Result<(), Fail> {
+    let part = ranked_part();
+    let share = (10_000_000_000, -10_000_000_000);
+    check_eq(Money.round_cheap((part, -part), largest_divisor()), share)?;
+    check_eq(Money.round_dear((part, -part), largest_divisor()), share)
 }
 
 // Money only sees no difference in the minutes.
