@@ -3,12 +3,13 @@
 use mathlib.Core.Path.{_≡_, refl, sym, _∙_}
 use mathlib.Core.Bool.{Bool, true, false}
 use mathlib.Core.Logic.{_⊎_, inl, inr, ⊎-elim}
-use Prim.Native.Nat.{ℕ, zero, suc, _<_}
+use Prim.Native.Nat.{ℕ, zero, suc, _+_, _-_, _<_, _≤_}
 use native.Mathlib.Omega.{arith}
 use Rattle.std.proofs.shelf.Tests.{both-ways, cases-bool}
-use Rattle.rankings.specs.Costs.{Cost, plus, times, negated}
-use Rattle.rankings.specs.Laws.{Ordered, Linear}
-use Rattle.rankings.proofs.Algebra.{plus-comm, plus-back, zero-times}
+use Rattle.rankings.specs.Costs.{Cost, Modest, plus, times, negated, largest-divisor}
+use Rattle.rankings.specs.Costs as costs
+use Rattle.rankings.specs.Laws.{Ordered, Linear, Rounds}
+use Rattle.rankings.proofs.Algebra.{plus-comm, plus-back, plus-zero, sum-times, times-zero, zero-times}
 
 module _ {le : Cost → Cost → Bool} (order : Ordered le) where
   -- what is dearer is not no dearer: the other is no dearer than it
@@ -65,3 +66,27 @@ module _ {le : Cost → Cost → Bool} (order : Ordered le) (linear : Linear le)
   pub scales-any : (k : ℕ) (a b : Cost) → le a b ≡ true → le (times k a) (times k b) ≡ true
   scales-any zero a b e = equal order (times 0 a) (times 0 b) (zero-times a ∙ sym (zero-times b))
   scales-any (suc k) a b e = linear .scales (suc k) a b (omega arith) e
+
+  -- of a cost that is no dearer than zero, more is no dearer than less
+  pub more-is-cheaper : (j k : ℕ) (a : Cost) → j ≤ k → le a costs.zero ≡ true → le (times k a) (times j a) ≡ true
+  more-is-cheaper j k a h e =
+      let rest = k - j in
+      let whole : j + rest ≡ k = omega arith in
+      let below : le (times rest a) costs.zero ≡ true = rw (times-zero rest) at (scales-any rest a costs.zero e) in
+      let sum : le (plus (times j a) (times rest a)) (plus (times j a) costs.zero) ≡ true = adds-left linear (times rest a) costs.zero (times j a) below in
+      rw (← whole, sum-times j rest a) (rw (plus-zero (times j a)) at sum)
+
+  -- of a cost that zero is no dearer than, less is no dearer than more
+  pub more-is-dearer : (j k : ℕ) (a : Cost) → j ≤ k → le costs.zero a ≡ true → le (times j a) (times k a) ≡ true
+  more-is-dearer j k a h e =
+      let rest = k - j in
+      let whole : j + rest ≡ k = omega arith in
+      let above : le costs.zero (times rest a) ≡ true = rw (times-zero rest) at (scales-any rest costs.zero a e) in
+      let sum : le (plus (times j a) costs.zero) (plus (times j a) (times rest a)) ≡ true = adds-left linear costs.zero (times rest a) (times j a) above in
+      rw (← whole, sum-times j rest a) (rw (plus-zero (times j a)) at sum)
+
+  -- the cheap rounding is no dearer than the dear one
+  pub cheap-dear : {cheap dear : Cost → ℕ → Cost} → Rounds le cheap dear → (c : Cost) (m : ℕ) → 1 ≤ m → m ≤ largest-divisor → Modest c → le (cheap c m) (dear c m) ≡ true
+  cheap-dear {cheap} {dear} rounds c m h k f =
+      sym (scales-same linear m (cheap c m) (dear c m) h)
+      ∙ order .trans (times m (cheap c m)) c (times m (dear c m)) (rounds .cheap-below c m h k f) (rounds .dear-above c m h k f)

@@ -20,13 +20,17 @@ plus a b = (a .0 +ℤ b .0, a .1 +ℤ b .1)
 abbrev pub times : ℕ → Cost → Cost
 times k a = (pos k *ℤ a .0, pos k *ℤ a .1)
 
--- what a cost and it make zero
+-- the cost that makes zero with a, part by part
 abbrev pub negated : Cost → Cost
 negated a = (negℤ (a .0), negℤ (a .1))
 
 -- the largest magnitude of a part that a ranking is asked about
 abbrev pub ranked-part : ℕ
 ranked-part = 10 ^ 16
+
+-- the largest number that a rounding divides by
+abbrev pub largest-divisor : ℕ
+largest-divisor = 1_000_000
 
 -- each part is of a magnitude of at most b
 abbrev pub Within : ℕ → Cost → Type 0

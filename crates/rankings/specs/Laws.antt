@@ -5,7 +5,7 @@ use mathlib.Core.Bool.{Bool, true, false}
 use mathlib.Core.Logic.{_⊎_}
 use Prim.Native.Nat.{ℕ, _<_, _≤_}
 use lib.IntN.{ℤ}
-use Rattle.rankings.specs.Costs.{Cost, Modest, plus, times, zero, floor, ceil}
+use Rattle.rankings.specs.Costs.{Cost, Modest, plus, times, zero, floor, ceil, largest-divisor}
 
 -- of two costs one is no dearer than the other, and what is no dearer is so along a chain
 pub record Ordered (le : Cost → Cost → Bool) : Type 0 where
@@ -22,10 +22,6 @@ pub record Linear (le : Cost → Cost → Bool) : Type 0 where
 -- some cost is dearer than zero
 abbrev pub SomeDearer : (Cost → Cost → Bool) → Type 0
 SomeDearer le = (c : Cost) × (le c zero ≡ false)
-
--- the largest number that a rounding divides by
-abbrev pub largest-divisor : ℕ
-largest-divisor = 1_000_000
 
 -- q is z / m taken down or up to a whole number
 abbrev pub Whole : ℤ → ℕ → ℤ → Type 0

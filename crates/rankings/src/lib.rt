@@ -10,6 +10,8 @@ mod limits;
 mod money;
 mod money_then_minutes;
 mod ranking;
+#[cfg(test)]
+mod tests;
 mod weighed;
 
 pub use choice::cheaper;

@@ -4,7 +4,7 @@ ghost use mathlib.Core.Bool.{Bool};
 ghost use Prim.Native.Nat.{ℕ};
 ghost use lib.IntN.{pos, natAbs};
 ghost use lib.Signed.{_≤ℤ_};
-ghost use Rattle.rankings.specs.Costs.{Cost, Modest};
+ghost use Rattle.rankings.specs.Costs.{Cost, Modest, largest-divisor};
 ghost use Rattle.rankings.specs.Laws.{Ordered, Linear, SomeDearer, Rounds};
 
 // An order of costs by how dear they are. The relation speaks of costs of any size; the question is for those whose
@@ -34,12 +34,12 @@ pub trait Rounding: Ranking {
     law rounds: { (s : Self) → Rounds (Self·Ranking .ranks s) (cheap s) (dear s) };
 
     fn round_cheap(&self, cost: (i64, i64), m: i64) -> (i64, i64)
-        requires { ⌜ Modest cost ⌝ ∗ ⌜ pos 1 ≤ℤ m ⌝ ∗ ⌜ m ≤ℤ pos 1_000_000 ⌝ }
+        requires { ⌜ Modest cost ⌝ ∗ ⌜ pos 1 ≤ℤ m ⌝ ∗ ⌜ m ≤ℤ pos largest-divisor ⌝ }
         ensures is { λ r. ⌜ r ≡ cheap (now (self .entry)) cost (natAbs m) ⌝ }
         ensures modest { λ r. ⌜ Modest r ⌝ };
 
     fn round_dear(&self, cost: (i64, i64), m: i64) -> (i64, i64)
-        requires { ⌜ Modest cost ⌝ ∗ ⌜ pos 1 ≤ℤ m ⌝ ∗ ⌜ m ≤ℤ pos 1_000_000 ⌝ }
+        requires { ⌜ Modest cost ⌝ ∗ ⌜ pos 1 ≤ℤ m ⌝ ∗ ⌜ m ≤ℤ pos largest-divisor ⌝ }
         ensures is { λ r. ⌜ r ≡ dear (now (self .entry)) cost (natAbs m) ⌝ }
         ensures modest { λ r. ⌜ Modest r ⌝ };
 }
