@@ -42,9 +42,9 @@ module _ {A : Type 0} {G : A → Type 0} {f : A → List ℕ} (mk : A → Entry)
       let x = r .was (t .0) (t .1) refl in
       returned (mk (t .0)) (t .1) (back (t .0) (x .0)) (writes (t .0) (t .1) (x .1))
       (λ a rest g e.
-          let p = only a rest g e in
-          let z = same-pair (t .0) (p .0) (t .1) rest (r .must (p .0) rest (p .2) (p .3)) in
-          (p .1 ∙ ap mk (sym (z .0)), sym (z .1)))
+      let p = only a rest g e in
+      let z = same-pair (t .0) (p .0) (t .1) rest (r .must (p .0) rest (p .2) (p .3)) in
+      (p .1 ∙ ap mk (sym (z .0)), sym (z .1)))
 
 -- bytes that begin with a kind's first word begin with no line of another kind
 pub header-only : (us : List ℕ) (a : Entry) (rest : List ℕ) → Good a → 115 ∷ 104 ∷ 101 ∷ 101 ∷ 116 ∷ 32 ∷ us ≡ lineText a ++ rest → (g : HeaderOf) × (a ≡ header g) × GoodHeader g × (us ≡ headerText g ++ rest)
@@ -183,6 +183,7 @@ of-no-kind bs h g r t f n = refused (λ a rest good e. none a rest e)
   where
     at : (i : ℕ) {us : List ℕ} → bs ≡ us → getD bs i 0 ≡ getD us i 0
     at i e = ap (λ l. getD l i 0) e
+
     none : (a : Entry) (rest : List ℕ) → bs ≡ lineText a ++ rest → ⊥
     none (header x) rest e = h (omega (arith, ap length e)) (at 0 e) (at 1 e) (at 2 e) (at 3 e) (at 4 e) (at 5 e)
     none (grade x) rest e = g (omega (arith, ap length e)) (at 0 e) (at 1 e)

@@ -27,7 +27,16 @@ fn read_header(bytes: &[u8]) -> Option<(HeaderLine, &[u8])>
     let (denominator, rest) = text::number(rest, End::Blank)?;
     let (fineness, rest) = text::number(rest, End::Blank)?;
     let (figures, rest) = text::number(rest, End::Line)?;
-    let line = HeaderLine { grades, rows, arcs, total, numerator, denominator, fineness, figures };
+    let line = HeaderLine {
+        grades,
+        rows,
+        arcs,
+        total,
+        numerator,
+        denominator,
+        fineness,
+        figures,
+    };
     Some((line, rest))
 }
 
@@ -37,7 +46,14 @@ fn read_grade(bytes: &[u8]) -> Option<(GradeLine<'_>, &[u8])>
     let (number, rest) = text::number(bytes, End::Blank)?;
     let (first_row, rest) = text::number(rest, End::Blank)?;
     let (label, rest) = text::label(rest)?;
-    Some((GradeLine { number, first_row, label }, rest))
+    Some((
+        GradeLine {
+            number,
+            first_row,
+            label,
+        },
+        rest,
+    ))
 }
 
 fn read_row(bytes: &[u8]) -> Option<(RowLine<'_>, &[u8])>
@@ -49,7 +65,17 @@ fn read_row(bytes: &[u8]) -> Option<(RowLine<'_>, &[u8])>
     let (second_part, rest) = text::number(rest, End::Blank)?;
     let (first_arc, rest) = text::number(rest, End::Blank)?;
     let (label, rest) = text::label(rest)?;
-    Some((RowLine { number, next, first_part, second_part, first_arc, label }, rest))
+    Some((
+        RowLine {
+            number,
+            next,
+            first_part,
+            second_part,
+            first_arc,
+            label,
+        },
+        rest,
+    ))
 }
 
 fn read_arc(bytes: &[u8]) -> Option<(ArcLine, &[u8])>
@@ -59,7 +85,15 @@ fn read_arc(bytes: &[u8]) -> Option<(ArcLine, &[u8])>
     let (next, rest) = text::number(rest, End::Blank)?;
     let (destination, rest) = text::number(rest, End::Blank)?;
     let (weight, rest) = text::number(rest, End::Line)?;
-    Some((ArcLine { number, next, destination, weight }, rest))
+    Some((
+        ArcLine {
+            number,
+            next,
+            destination,
+            weight,
+        },
+        rest,
+    ))
 }
 
 fn read_figure(bytes: &[u8]) -> Option<(FigureLine, &[u8])>
@@ -71,7 +105,14 @@ fn read_figure(bytes: &[u8]) -> Option<(FigureLine, &[u8])>
     let (floor_second, rest) = text::number(rest, End::Blank)?;
     let (ceiling_first, rest) = text::number(rest, End::Blank)?;
     let (ceiling_second, rest) = text::number(rest, End::Line)?;
-    let line = FigureLine { grade, row, floor_first, floor_second, ceiling_first, ceiling_second };
+    let line = FigureLine {
+        grade,
+        row,
+        floor_first,
+        floor_second,
+        ceiling_first,
+        ceiling_second,
+    };
     Some((line, rest))
 }
 
