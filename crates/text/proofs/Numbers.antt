@@ -33,10 +33,10 @@ run-is {low} {high} {bs} {n} run xs a us e all out =
     ⊎-elim
     (λ lt. absurd (run .stops (omega arith) (subst (In low high) (sym (ap (λ l. getD l n 0) e ∙ getD-append-left xs (a ∷ us) 0 n lt)) (all n lt))))
     (λ ge.
-        ⊎-elim
-        (λ lt. absurd (out (subst (In low high) (ap (λ l. getD l (length xs) 0) e ∙ getD-at xs a us 0 (length xs) refl) (run .all (length xs) lt))))
-        (λ le. omega arith)
-        (cases-lt (length xs) n))
+    ⊎-elim
+    (λ lt. absurd (out (subst (In low high) (ap (λ l. getD l (length xs) 0) e ∙ getD-at xs a us 0 (length xs) refl) (run .all (length xs) lt))))
+    (λ le. omega arith)
+    (cases-lt (length xs) n))
     (cases-lt n (length xs))
 
 abbrev AllDigits : List ℕ → Type 0
@@ -135,10 +135,10 @@ module _ (end : ℕ) (bs ds : List ℕ) (e : bs ≡ 45 ∷ ds) where
       let h = r .was (suc k) us refl in
       returned (negsuc k) us (h .0) (e ∙ ap (λ l. 45 ∷ l) (h .1))
       (λ z rest g at.
-          let p = minus-must end ds z rest g (sym e ∙ at) in
-          let q = same-pair (suc k) (suc (p .0)) us rest (r .must (suc (p .0)) rest (p .2) (p .3)) in
-          let same : p .0 ≡ k = omega (arith, q .0) in
-          (p .1 ∙ ap negsuc same, sym (q .1)))
+      let p = minus-must end ds z rest g (sym e ∙ at) in
+      let q = same-pair (suc k) (suc (p .0)) us rest (r .must (suc (p .0)) rest (p .2) (p .3)) in
+      let same : p .0 ≡ k = omega (arith, q .0) in
+      (p .1 ∙ ap negsuc same, sym (q .1)))
 
 module _ (end : ℕ) (bs : List ℕ) (other : getD bs 0 0 ≡ 45 → ⊥) where
   pub plain-none : Reads Short (naturalText end) bs None → Reads Small (numberText end) bs None
@@ -149,9 +149,9 @@ module _ (end : ℕ) (bs : List ℕ) (other : getD bs 0 0 ≡ 45 → ⊥) where
       let h = r .was k us refl in
       returned (pos k) us (h .0) (h .1)
       (λ z rest g at.
-          let p = plain-must end bs z rest other g at in
-          let q = same-pair k (p .0) us rest (r .must (p .0) rest (p .2) (p .3)) in
-          (p .1 ∙ ap pos (sym (q .0)), sym (q .1)))
+      let p = plain-must end bs z rest other g at in
+      let q = same-pair k (p .0) us rest (r .must (p .0) rest (p .2) (p .3)) in
+      (p .1 ∙ ap pos (sym (q .0)), sym (q .1)))
 
 -- what stands before a byte outside a run is the run
 pub run-of : (low high : ℕ) (xs : List ℕ) (a : ℕ) (us : List ℕ) → ((k : ℕ) → k < length xs → In low high (getD xs k 0)) → (In low high a → ⊥) → Run low high (xs ++ a ∷ us) (length xs)

@@ -41,16 +41,16 @@ module _ {A B : Type 0} {G : A → Type 0} {f : A → List ℕ} {bs : List ℕ} 
   pub first-then : {H : B → Type 0} {h : B → List ℕ} (a : A) (us : List ℕ) → Reads G f bs (Some (a, us)) → (o : Option (B × List ℕ)) → Reads H h us o → Reads (Each G H) (both f h) bs (mapped (λ q. ((a, q .0), q .1)) o)
   first-then {H} {h} a us r None s =
       refused (λ p rest g e.
-          let q = same-pair a (p .0) us (h (p .1) ++ rest) (r .must (p .0) (h (p .1) ++ rest) (g .0) (e ∙ append-assoc (f (p .0)) (h (p .1)) rest)) in
-          not-some (s .must (p .1) rest (g .1) (q .1)))
+      let q = same-pair a (p .0) us (h (p .1) ++ rest) (r .must (p .0) (h (p .1) ++ rest) (g .0) (e ∙ append-assoc (f (p .0)) (h (p .1)) rest)) in
+      not-some (s .must (p .1) rest (g .1) (q .1)))
   first-then {H} {h} a us r (Some t) s =
       let x = r .was a us refl in
       let y = s .was (t .0) (t .1) refl in
       returned (a, t .0) (t .1) (x .0, y .0) (x .1 ∙ ap (λ l. f a ++ l) (y .1) ∙ sym (append-assoc (f a) (h (t .0)) (t .1)))
       (λ p rest g e.
-          let q = same-pair a (p .0) us (h (p .1) ++ rest) (r .must (p .0) (h (p .1) ++ rest) (g .0) (e ∙ append-assoc (f (p .0)) (h (p .1)) rest)) in
-          let z = same-pair (t .0) (p .1) (t .1) rest (s .must (p .1) rest (g .1) (q .1)) in
-          ((λ i. (sym (q .0) i, sym (z .0) i)), sym (z .1)))
+      let q = same-pair a (p .0) us (h (p .1) ++ rest) (r .must (p .0) (h (p .1) ++ rest) (g .0) (e ∙ append-assoc (f (p .0)) (h (p .1)) rest)) in
+      let z = same-pair (t .0) (p .1) (t .1) rest (s .must (p .1) rest (g .1) (q .1)) in
+      ((λ i. (sym (q .0) i, sym (z .0) i)), sym (z .1)))
 
 pub both-alone : {A B : Type 0} (G : A → Type 0) (f : A → List ℕ) (H : B → Type 0) (h : B → List ℕ) → Alone G f → Alone H h → Alone (Each G H) (both f h)
 both-alone G f H h one two a b x y g k same =

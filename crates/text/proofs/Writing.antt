@@ -51,8 +51,7 @@ writes-then xs at a ys j w b (Some k) zs v =
 writes-then xs at a ys j w b None zs v =
     let room : at + length a ≤ length xs = omega arith in
     let same = ap length (w .2) ∙ length-put xs at a room in
-    let less : at ≤ j = omega arith in
-    (
+    let less : at ≤ j = omega arith in (
       omega (arith, length-append a b),
       omega arith,
       sym (take-take at j zs less) ∙ ap (take at) (v .2) ∙ take-take at j ys less ∙ ap (take at) (w .2) ∙ take-put xs at a room,
@@ -88,8 +87,7 @@ step-ends xs at n next ys s room =
     let long = ap length (s .is) ∙ length-push (s .front) b in
     let less : at + length (s .front) ≤ length xs = omega arith in
     let same = ap length (s .ys-is) ∙ length-put xs at (s .front) less in
-    let inside : next < length ys = omega (arith, s .next-is) in
-    (
+    let inside : next < length ys = omega (arith, s .next-is) in (
       omega (arith, s .next-is),
       inside,
       set-put ys next b inside ∙ (λ i. put (s .ys-is i) (s .next-is i) (b ∷ [])) ∙ put-put xs at (s .front) less (b ∷ []) ∙ ap (put xs at) (sym (s .is)),

@@ -8,4 +8,5 @@ pub const LABEL: usize = 24;
 
 /// The bytes of a label: what ASCII prints, without the blank.
 pub const LABEL_FIRST: u8 = 33;
+
 pub const LABEL_LAST: u8 = 126;

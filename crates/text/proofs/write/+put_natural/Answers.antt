@@ -18,8 +18,8 @@ put-natural-next-requires t c κs =
 sofar : (t : ℕ) (c : Joined-n-ge-TEN t) → Step (c .args .out .now) (c .args .at) (c .args .n) (c .if-n-ge-TEN .next) (c .if-n-ge-TEN .out)
 sofar t c =
     elim (c .if-n-ge-TEN .came) [
-      then-n-ge-TEN w ↦ step-more _ _ _ _ _ (omega arith) (omega arith) (w .next-is ∙ w .put-natural-next .ensures .place) (w .out-is ∙ w .put-natural-next .ensures .after)
-    | else-n-ge-TEN w ↦ step-one _ _ _ _ _ (omega arith) (w .next-is) (w .out-is)
+      | then-n-ge-TEN w ↦ step-more _ _ _ _ _ (omega arith) (omega arith) (w .next-is ∙ w .put-natural-next .ensures .place) (w .out-is ∙ w .put-natural-next .ensures .after)
+      | else-n-ge-TEN w ↦ step-one _ _ _ _ _ (omega arith) (w .next-is) (w .out-is)
     ]
 
 pub index-out-next : need.index-out-next
