@@ -1,1 +1,2 @@
 pub mod LineKinds
+pub mod Keeps

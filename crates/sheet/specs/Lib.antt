@@ -1,2 +1,5 @@
 pub mod Lines
 pub mod Places
+pub mod Spans
+pub mod Read
+pub mod Whole
