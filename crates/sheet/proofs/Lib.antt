@@ -1,2 +1,3 @@
 pub mod LineKinds
 pub mod Keeps
+pub mod Series

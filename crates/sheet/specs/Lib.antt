@@ -3,3 +3,4 @@ pub mod Places
 pub mod Spans
 pub mod Read
 pub mod Whole
+pub mod Render

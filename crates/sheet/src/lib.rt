@@ -13,6 +13,7 @@ mod lines;
 mod ranges;
 mod reading;
 mod row_reading;
+mod table_lines;
 mod whole;
 mod write_fault;
 mod writing;

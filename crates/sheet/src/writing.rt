@@ -1,49 +1,31 @@
 ghost use mathlib.Core.Path.{_≡_};
-ghost use mathlib.Core.List.{_++_};
-ghost use Prim.Native.Nat.{ℕ, _+_, _≤_, _<_};
-ghost use lib.ListN.{length, getD, take, drop};
+ghost use Prim.Native.Nat.{_≤_, _<_};
+ghost use lib.ListN.{length, drop};
 ghost use Rattle.std.specs.declared.option.Option.the-variants.{Some, None};
 ghost use Rattle.std.specs.declared.result.Result.the-variants.{Ok, Err};
+ghost use Rattle.text.specs.Writing.{Writes};
 ghost use Rattle.table.specs.Ranges.{FirstsIn};
+ghost use Rattle.sheet.specs.Read.{PlansIn};
+ghost use Rattle.sheet.specs.Render.{labelsOf, gradesText, rowsText, arcsText, figuresText, figurePart, figuresOf, render, lent};
 ghost use Rattle.sheet.specs.Spans.{SpansIn};
 use crate::fault::TextFault;
 use crate::labels::Labels;
 use crate::labels::Span;
 use crate::line_writing::write_line;
-use crate::lines::ArcLine;
-use crate::lines::FigureLine;
-use crate::lines::GradeLine;
-use crate::lines::HeaderLine;
-use crate::lines::Line;
-use crate::lines::RowLine;
 use crate::reading::MAX_SHEET;
 use crate::reading::read;
+use crate::table_lines::arc_line;
+use crate::table_lines::end_line;
+use crate::table_lines::figure_line;
+use crate::table_lines::grade_line;
+use crate::table_lines::header_line;
+use crate::table_lines::part;
+use crate::table_lines::row_line;
 use crate::write_fault::WriteFault;
 use table::Figures;
 use table::MAX_GRADES;
 use table::MAX_ROWS;
 use table::Table;
-
-/// The first line.
-fn header_line(table: &Table, figured: bool) -> Line<'static> {
-    let figures = if figured { table.grades } else { 0 };
-    Line::Header(HeaderLine {
-        grades: table.grades as i64,
-        rows: table.rows as i64,
-        arcs: table.arcs as i64,
-        total: table.total as i64,
-        numerator: table.numerator as i64,
-        denominator: table.denominator as i64,
-        fineness: table.fineness as i64,
-        figures: figures as i64,
-    })
-}
-
-fn write_header(out: &mut [u8], table: &Table, figured: bool) -> Option<usize>
-    ensures { λ r. ⌜ elim r [ Some j ↦ j ≤ length (now (out .exit)) | None ↦ Unit {0} ] ⌝ }
-{
-    write_line(out, 0, &header_line(table, figured))
-}
 
 fn write_grades(
     out: &mut [u8],
@@ -53,17 +35,12 @@ fn write_grades(
     old: &[u8],
 ) -> Option<usize>
     requires { ⌜ SpansIn (now table .grades) (length (now old)) (now label) ⌝ ∗ ⌜ at ≤ length (now out) ⌝ }
-    ensures { λ r. ⌜ elim r [ Some j ↦ j ≤ length (now (out .exit)) | None ↦ Unit {0} ] ⌝ }
+    ensures { λ r. ⌜ Writes (now (out .entry)) at (gradesText (now (table .entry) .«first_row») (labelsOf (now (old .entry)) (now (label .entry))) (now (table .entry) .grades)) r (now (out .exit)) ⌝ }
 {
     let mut at = at;
     for i in 0..table.grades {
-        let Span { start, end } = label[i];
-        let grade = GradeLine {
-            number: (i + 1) as i64,
-            first_row: table.first_row[i] as i64,
-            label: &old[start..end],
-        };
-        at = write_line(out, at, &Line::Grade(grade))?;
+        let line = grade_line(table, i, part(old, label[i]));
+        at = write_line(out, at, &line)?;
     }
     Some(at)
 }
@@ -76,41 +53,19 @@ fn write_rows(
     old: &[u8],
 ) -> Option<usize>
     requires { ⌜ SpansIn (now table .rows) (length (now old)) (now label) ⌝ ∗ ⌜ at ≤ length (now out) ⌝ }
-    ensures { λ r. ⌜ elim r [ Some j ↦ j ≤ length (now (out .exit)) | None ↦ Unit {0} ] ⌝ }
+    ensures { λ r. ⌜ Writes (now (out .entry)) at (rowsText (now (table .entry) .row) (labelsOf (now (old .entry)) (now (label .entry))) (now (table .entry) .rows)) r (now (out .exit)) ⌝ }
 {
     let mut at = at;
     for i in 0..table.rows {
-        let Span { start, end } = label[i];
-        let row = table.row[i];
-        let line = RowLine {
-            number: (i + 1) as i64,
-            next: row.next as i64,
-            first_part: row.cost.0,
-            second_part: row.cost.1,
-            first_arc: row.first_arc as i64,
-            label: &old[start..end],
-        };
-        at = write_line(out, at, &Line::Row(line))?;
+        let line = row_line(table, i, part(old, label[i]));
+        at = write_line(out, at, &line)?;
     }
     Some(at)
 }
 
-/// The line of the arc `i + 1`.
-fn arc_line(table: &Table, i: usize) -> Line<'static>
-    requires { ⌜ i < now table .arcs ⌝ }
-{
-    let arc = table.arc[i];
-    Line::Arc(ArcLine {
-        number: (i + 1) as i64,
-        next: arc.next as i64,
-        destination: arc.destination as i64,
-        weight: arc.weight as i64,
-    })
-}
-
 fn write_arcs(out: &mut [u8], at: usize, table: &Table) -> Option<usize>
     requires { ⌜ at ≤ length (now out) ⌝ }
-    ensures { λ r. ⌜ elim r [ Some j ↦ j ≤ length (now (out .exit)) | None ↦ Unit {0} ] ⌝ }
+    ensures { λ r. ⌜ Writes (now (out .entry)) at (arcsText (now (table .entry) .arc) (now (table .entry) .arcs)) r (now (out .exit)) ⌝ }
 {
     let mut at = at;
     for i in 0..table.arcs {
@@ -119,25 +74,9 @@ fn write_arcs(out: &mut [u8], at: usize, table: &Table) -> Option<usize>
     Some(at)
 }
 
-/// The figure line of the grade `i + 1`.
-fn figure_line(figures: &Figures, i: usize) -> Line<'static>
-    requires { ⌜ i < 32 ⌝ ∗ ⌜ getD (now figures .row) i 0 ≤ 96 ⌝ }
-{
-    let (floor_first, floor_second) = figures.floor[i];
-    let (ceiling_first, ceiling_second) = figures.ceiling[i];
-    Line::Figure(FigureLine {
-        grade: (i + 1) as i64,
-        row: figures.row[i] as i64,
-        floor_first,
-        floor_second,
-        ceiling_first,
-        ceiling_second,
-    })
-}
-
 fn write_figures(out: &mut [u8], at: usize, table: &Table, figures: &Figures) -> Option<usize>
     requires { ⌜ FirstsIn (now table .grades) (now table .rows) (now figures .row) ⌝ ∗ ⌜ at ≤ length (now out) ⌝ }
-    ensures { λ r. ⌜ elim r [ Some j ↦ j ≤ length (now (out .exit)) | None ↦ Unit {0} ] ⌝ }
+    ensures { λ r. ⌜ Writes (now (out .entry)) at (figuresText (now (figures .entry)) (now (table .entry) .grades)) r (now (out .exit)) ⌝ }
 {
     let mut at = at;
     for i in 0..table.grades {
@@ -146,8 +85,30 @@ fn write_figures(out: &mut [u8], at: usize, table: &Table, figures: &Figures) ->
     Some(at)
 }
 
-fn end_line() -> Line<'static> {
-    Line::End
+/// The figure lines, where there are figures.
+fn write_figure_part(
+    out: &mut [u8],
+    at: usize,
+    table: &Table,
+    figures: Option<&Figures>,
+) -> Option<usize>
+    requires { ⌜ PlansIn (now table .grades) (now table .rows) (lent figures) ⌝ ∗ ⌜ at ≤ length (now out) ⌝ }
+    ensures { λ r. ⌜ Writes (now (out .entry)) at (figurePart (now (table .entry) .grades) (lent (figures .entry))) r (now (out .exit)) ⌝ }
+{
+    match figures {
+        Some(figures) => write_figures(out, at, table, figures),
+        None => Some(at),
+    }
+}
+
+/// How many figure lines there are.
+fn figure_count(table: &Table, figures: Option<&Figures>) -> usize
+    ensures { λ r. ⌜ r ≡ figuresOf (now (table .entry) .grades) (lent (figures .entry)) ⌝ ∗ ⌜ r ≤ 32 ⌝ }
+{
+    match figures {
+        Some(_) => table.grades,
+        None => 0,
+    }
 }
 
 /// Writes the whole sheet, and returns its length, or `None` where it has no room.
@@ -158,17 +119,15 @@ fn write_all(
     labels: &Labels,
     old: &[u8],
 ) -> Option<usize>
-    requires { ⌜ SpansIn (now table .grades) (length (now old)) (now labels .grade) ⌝ ∗ ⌜ SpansIn (now table .rows) (length (now old)) (now labels .row) ⌝ ∗ ⌜ elim figures [ Some f ↦ FirstsIn (now table .grades) (now table .rows) (now f .row) | None ↦ Unit {0} ] ⌝ }
-    ensures { λ r. ⌜ elim r [ Some j ↦ j ≤ length (now (out .exit)) | None ↦ Unit {0} ] ⌝ }
+    requires { ⌜ SpansIn (now table .grades) (length (now old)) (now labels .grade) ⌝ ∗ ⌜ SpansIn (now table .rows) (length (now old)) (now labels .row) ⌝ ∗ ⌜ PlansIn (now table .grades) (now table .rows) (lent figures) ⌝ }
+    ensures { λ r. ⌜ Writes (now (out .entry)) 0 (render (now (table .entry)) (lent (figures .entry)) (labelsOf (now (old .entry)) (now (labels .entry) .grade)) (labelsOf (now (old .entry)) (now (labels .entry) .row))) r (now (out .exit)) ⌝ }
 {
-    let at = write_header(out, table, figures.is_some())?;
+    let header = header_line(table, figure_count(table, figures));
+    let at = write_line(out, 0, &header)?;
     let at = write_grades(out, at, table, &labels.grade, old)?;
     let at = write_rows(out, at, table, &labels.row, old)?;
     let at = write_arcs(out, at, table)?;
-    let at = match figures {
-        Some(figures) => write_figures(out, at, table, figures)?,
-        None => at,
-    };
+    let at = write_figure_part(out, at, table, figures)?;
     write_line(out, at, &end_line())
 }
 
@@ -188,7 +147,7 @@ pub fn write(
     figures: Option<&Figures>,
     old: &[u8],
 ) -> Result<usize, WriteFault>
-    requires { ⌜ elim figures [ Some f ↦ FirstsIn (now table .grades) (now table .rows) (now f .row) | None ↦ Unit {0} ] ⌝ }
+    requires { ⌜ PlansIn (now table .grades) (now table .rows) (lent figures) ⌝ }
     ensures { λ r. ⌜ elim r [ Ok n ↦ (n ≤ length (now (out .entry))) × (drop n (now (out .exit)) ≡ drop n (now (out .entry))) | Err e ↦ now (out .exit) ≡ now (out .entry) ] ⌝ }
 {
     let sheet = match read(old) {
