@@ -1,0 +1,3 @@
+pub mod LineKinds
+pub mod Keeps
+pub mod Series

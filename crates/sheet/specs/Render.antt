@@ -1,0 +1,95 @@
+-- The text of a whole sheet: what is written, and what is read. Assumes nothing.
+use mathlib.Core.List.{List, [], _++_}
+use Prim.Native.Nat.{ℕ, zero, suc, _+_, _-_}
+use lib.IntN.{pos}
+use lib.ListN.{getD, take, drop}
+use denote.Ref.{RefT}
+use Rattle.std.specs.declared.option.Option.{Option}
+use Rattle.std.specs.declared.option.Option.the-variants.{Some, None}
+use Rattle.table.specs.declared.figures.Figures.{Figures}
+use Rattle.table.specs.declared.rows.Arc.{Arc}
+use Rattle.table.specs.declared.rows.Row.{Row}
+use Rattle.table.specs.declared.table.Table.{Table}
+use Rattle.table.specs.Ranges.{row0, arc0}
+use Rattle.sheet.specs.declared.labels.Labels.{Labels}
+use Rattle.sheet.specs.declared.labels.Span.{Span}
+use Rattle.sheet.specs.Lines.{Entry, header, grade, row, arc, figure, end, lineText}
+use Rattle.sheet.specs.Spans.{span0}
+
+-- f 0, f 1 and so on, n of them, one after another
+abbrev pub series : (ℕ → List ℕ) → ℕ → List ℕ
+series f zero = []
+series f (suc n) = series f n ++ f n
+
+-- the bytes of a sheet that a label's place marks
+abbrev pub partOf : List ℕ → Span → List ℕ
+partOf sheet s = take (s .end - s .start) (drop (s .start) sheet)
+
+-- the labels that places mark, the first at 0
+abbrev pub labelsOf : List ℕ → List Span → ℕ → List ℕ
+labelsOf sheet spans i = partOf sheet (getD spans i span0)
+
+-- how many figure lines there are
+abbrev pub figuresOf : ℕ → Option Figures → ℕ
+figuresOf grades (Some f) = grades
+figuresOf grades None = 0
+
+-- the first line, with the number of figure lines that follow
+abbrev pub headerEntry : Table → ℕ → Entry
+headerEntry t figures = header (pos (t .grades), (pos (t .rows), (pos (t .arcs), (pos (t .total), (pos (t .numerator), (pos (t .denominator), (pos (t .fineness), pos figures)))))))
+
+-- the line of the grade i + 1, from the first rows and its label
+abbrev pub gradeEntry : List ℕ → List ℕ → ℕ → Entry
+gradeEntry firsts label i = grade (pos (i + 1), (pos (getD firsts i 0), label))
+
+-- the line of the row i + 1
+abbrev pub rowEntry : List Row → List ℕ → ℕ → Entry
+rowEntry rs label i =
+    let r = getD rs i row0 in
+    row (pos (i + 1), (pos (r .next), (r .cost .0, (r .cost .1, (pos (r .«first_arc»), label)))))
+
+-- the line of the arc i + 1
+abbrev pub arcEntry : List Arc → ℕ → Entry
+arcEntry xs i =
+    let a = getD xs i arc0 in
+    arc (pos (i + 1), (pos (a .next), (pos (a .destination), pos (a .weight))))
+
+-- the figure line of the grade i + 1
+abbrev pub figureEntry : Figures → ℕ → Entry
+figureEntry f i =
+    let low = getD (f .floor) i (pos 0, pos 0) in
+    let high = getD (f .ceiling) i (pos 0, pos 0) in
+    figure (pos (i + 1), (pos (getD (f .row) i 0), (low .0, (low .1, (high .0, high .1)))))
+
+-- the lines of each kind
+abbrev pub gradesText : List ℕ → (ℕ → List ℕ) → ℕ → List ℕ
+gradesText firsts label = series (λ i. lineText (gradeEntry firsts (label i) i))
+
+abbrev pub rowsText : List Row → (ℕ → List ℕ) → ℕ → List ℕ
+rowsText rs label = series (λ i. lineText (rowEntry rs (label i) i))
+
+abbrev pub arcsText : List Arc → ℕ → List ℕ
+arcsText xs = series (λ i. lineText (arcEntry xs i))
+
+abbrev pub figuresText : Figures → ℕ → List ℕ
+figuresText f = series (λ i. lineText (figureEntry f i))
+
+-- a figure line for each grade, where there are figures
+abbrev pub figurePart : ℕ → Option Figures → List ℕ
+figurePart grades (Some f) = figuresText f grades
+figurePart grades None = []
+
+-- the whole sheet of a table, with figures or without, and the labels of grades and rows
+unfoldable pub render : Table → Option Figures → (ℕ → List ℕ) → (ℕ → List ℕ) → List ℕ
+render t f gradeLabel rowLabel =
+    ((((lineText (headerEntry t (figuresOf (t .grades) f))
+    ++ gradesText (t .«first_row») gradeLabel (t .grades))
+    ++ rowsText (t .row) rowLabel (t .rows))
+    ++ arcsText (t .arc) (t .arcs))
+    ++ figurePart (t .grades) f)
+    ++ lineText end
+
+-- figures that are lent, if any
+abbrev pub lent : Option (RefT Figures) → Option Figures
+lent (Some f) = Some (f .now)
+lent None = None
