@@ -36,3 +36,6 @@ cheaper-within le b best next p q = cond-both (le (best .cost) (next .cost)) bes
 -- a choice that costs X is the choice of its row
 pub choice-is : (t : Table) (w : ℕ → Cost) (k : ℕ) (c : Cost) → c ≡ X t k w → choiceOf t w k ≡ record { row = k; cost = c }
 choice-is t w k c e = (λ i. record { row = k; cost = sym e i })
+
+pub cheaper-row : (le : Cost → Cost → Bool) (n : ℕ) (best next : Choice) → Within 1 n (best .row) → Within 1 n (next .row) → Within 1 n (cheaperOf le best next .row)
+cheaper-row le n best next p q = cond-both (le (best .cost) (next .cost)) best next (λ c. Within 1 n (c .row)) (λ e. p) (λ e. q)

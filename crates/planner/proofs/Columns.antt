@@ -12,7 +12,7 @@ use Rattle.std.specs.declared.option.Option.the-variants.{Some, None}
 use Rattle.std.proofs.shelf.Lists.{getD-set-same, getD-set-other, length-set}
 use Rattle.std.proofs.shelf.Tests.{cases-eq}
 use Rattle.rankings.specs.Costs.{Cost, zero}
-use Rattle.table.specs.Ranges.{FigureIn, FiguresIn}
+use Rattle.table.specs.Ranges.{Within, FirstsIn, FigureIn, FiguresIn}
 use Rattle.planner.specs.Sweeps.{replaced, applied, anyOf}
 
 pub applied-more : {A : Type 0} (f : ℕ → Option A) (n : ℕ) (xs : List A) → applied f (n + 1) xs ≡ replaced n (f (n + 1)) (applied f n xs)
@@ -48,3 +48,10 @@ set-within ws i w inside all one k h =
     (λ same. subst FigureIn (sym (ap (λ j. getD (set ws i w) j zero) same ∙ getD-set-same ws i w zero inside)) one)
     (λ apart. subst FigureIn (sym (getD-set-other ws i k w zero apart)) (all k h))
     (cases-eq k i)
+
+pub set-row : (n most : ℕ) (rows : List ℕ) (i k : ℕ) → i < length rows → FirstsIn n most rows → Within 1 most k → FirstsIn n most (set rows i k)
+set-row n most rows i k inside all one j h =
+    ⊎-elim
+    (λ same. subst (Within 1 most) (sym (ap (λ m. getD (set rows i k) m 0) same ∙ getD-set-same rows i k 0 inside)) one)
+    (λ apart. subst (Within 1 most) (sym (getD-set-other rows i j k 0 apart)) (all j h))
+    (cases-eq j i)

@@ -2,6 +2,7 @@ ghost use mathlib.Core.Path.{_≡_};
 ghost use Prim.Native.Nat.{_*_, _^_};
 ghost use Rattle.rankings.specs.Costs.{Modest, Within as Sized};
 ghost use Rattle.std.specs.Slices.{found};
+ghost use Rattle.table.specs.Ranges.{Within};
 ghost use Rattle.table.specs.Lookahead.{figureAt, scaling};
 ghost use Rattle.planner.specs.Choices.{cheaperOf, cheapestRow};
 use rankings::Ranking;
@@ -30,6 +31,7 @@ fn cheaper_of<R: Ranking>(ranking: &R, best: Choice, next: Choice) -> Choice
 pub fn cheapest_row<R: Ranking>(ranking: &R, sound: &SoundTable, g: usize, figures: &Column) -> Option<Choice>
     ensures is { λ r. ⌜ r ≡ cheapestRow (ranks (now (ranking .entry))) (now (sound .entry) .table) (figureAt (now (figures .entry) .at)) g ⌝ }
     ensures within { λ r. ⌜ found r (λ c. Sized (scaling (now (sound .entry) .table) * 10 ^ 10) (c .cost)) ⌝ }
+    ensures row { λ r. ⌜ found r (λ c. Within 1 (now (sound .entry) .table .rows) (c .row)) ⌝ }
 {
     let table = &sound.table;
     if g == 0 || g > table.grades {

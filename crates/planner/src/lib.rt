@@ -5,7 +5,7 @@ mod sweep;
 
 pub use choice::Choice;
 pub use choice::cheapest_row;
-pub use start::start_figures;
+pub use start::start_page;
 pub use sweep::Sweep;
 pub use sweep::Swept;
 pub use sweep::sweep_once;

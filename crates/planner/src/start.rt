@@ -10,6 +10,7 @@ use rankings::scale;
 use table::Column;
 use table::Figures;
 use table::MAX_GRADES;
+use table::Page;
 use table::SoundTable;
 use table::Table;
 
@@ -41,11 +42,13 @@ fn dearest_cost<R: Ranking>(ranking: &R, table: &Table) -> (i64, i64)
     worst
 }
 
-/// The figures that every plan starts from: the same floor and the same ceiling for each grade, and its first row.
-pub fn start_figures<R: Ranking>(ranking: &R, sound: &SoundTable) -> Figures
-    ensures rows { λ r. ⌜ r .row ≡ now (sound .entry) .table .«first_row» ⌝ }
-    ensures floors { λ r. ⌜ r .floor .at ≡ replicate 32 (startFigure (now (sound .entry) .table) (cheapestCost (ranks (now (ranking .entry))) (now (sound .entry) .table))) ⌝ }
-    ensures ceilings { λ r. ⌜ r .ceiling .at ≡ replicate 32 (startFigure (now (sound .entry) .table) (dearestCost (ranks (now (ranking .entry))) (now (sound .entry) .table))) ⌝ }
+/// The table with the figures that every plan starts from: the same floor and the same ceiling for each grade, and its
+/// first row.
+pub fn start_page<R: Ranking>(ranking: &R, sound: &SoundTable) -> Page
+    ensures table { λ r. ⌜ r .sound ≡ now (sound .entry) ⌝ }
+    ensures rows { λ r. ⌜ r .figures .row ≡ now (sound .entry) .table .«first_row» ⌝ }
+    ensures floors { λ r. ⌜ r .figures .floor .at ≡ replicate 32 (startFigure (now (sound .entry) .table) (cheapestCost (ranks (now (ranking .entry))) (now (sound .entry) .table))) ⌝ }
+    ensures ceilings { λ r. ⌜ r .figures .ceiling .at ≡ replicate 32 (startFigure (now (sound .entry) .table) (dearestCost (ranks (now (ranking .entry))) (now (sound .entry) .table))) ⌝ }
 {
     let table = &sound.table;
     let unit = table.fineness * table.denominator;
@@ -56,5 +59,7 @@ pub fn start_figures<R: Ranking>(ranking: &R, sound: &SoundTable) -> Figures
     let ceilings = [highest; MAX_GRADES];
     let floor = Column { at: floors };
     let ceiling = Column { at: ceilings };
-    Figures { row, floor, ceiling }
+    let figures = Figures { row, floor, ceiling };
+    let sound = *sound;
+    Page { sound, figures }
 }

@@ -11,7 +11,7 @@ use rankings::cheaper;
 use rankings::dearer;
 use table::Column;
 use table::Figures;
-use table::MAX_GRADES;
+use table::Page;
 use table::SoundTable;
 
 /// b · D, by which X is divided to give a figure.
@@ -37,6 +37,7 @@ fn lowered_ceiling<R: Rounding>(ranking: &R, sound: &SoundTable, g: usize, ceili
     requires { ⌜ Within 1 (now sound .table .grades) g ⌝ }
     ensures is { λ r. ⌜ r ≡ lowered (R·Ranking .ranks (now (ranking .entry))) (cheap (now (ranking .entry))) (dear (now (ranking .entry))) (now (sound .entry) .table) (figureAt (now (ceilings .entry) .at)) g ⌝ }
     ensures within { λ r. ⌜ found r (λ c. FigureIn (c .cost)) ⌝ }
+    ensures row { λ r. ⌜ found r (λ c. Within 1 (now (sound .entry) .table .rows) (c .row)) ⌝ }
 {
     let best = cheapest_row(ranking, sound, g, ceilings)?;
     let cost = ranking.round_dear(best.cost, divisor(sound));
@@ -65,22 +66,24 @@ fn swept_floors<R: Rounding>(ranking: &R, sound: &SoundTable, floors: &Column) -
 /// What one sweep comes to.
 #[derive(Clone, Copy)]
 pub struct Sweep {
-    pub figures: Figures,
+    pub page: Page,
     /// Whether some floor or ceiling changed.
     pub moved: bool,
 }
 
 /// One sweep: each new figure is reckoned from the figures before it, and none from another new one.
-pub fn sweep_once<R: Rounding>(ranking: &R, sound: &SoundTable, figures: &Figures) -> Sweep
-    ensures after { λ r. ⌜ shown (r .figures) ≡ sweepOf (R·Ranking .ranks (now (ranking .entry))) (cheap (now (ranking .entry))) (dear (now (ranking .entry))) (now (sound .entry) .table) (shown (now (figures .entry))) ⌝ }
-    ensures moved { λ r. ⌜ r .moved ≡ moves (R·Ranking .ranks (now (ranking .entry))) (cheap (now (ranking .entry))) (dear (now (ranking .entry))) (now (sound .entry) .table) (shown (now (figures .entry))) ⌝ }
+pub fn sweep_once<R: Rounding>(ranking: &R, page: &Page) -> Sweep
+    ensures table { λ r. ⌜ r .page .sound ≡ now (page .entry) .sound ⌝ }
+    ensures after { λ r. ⌜ shown (r .page .figures) ≡ sweepOf (R·Ranking .ranks (now (ranking .entry))) (cheap (now (ranking .entry))) (dear (now (ranking .entry))) (now (page .entry) .sound .table) (shown (now (page .entry) .figures)) ⌝ }
+    ensures moved { λ r. ⌜ r .moved ≡ moves (R·Ranking .ranks (now (ranking .entry))) (cheap (now (ranking .entry))) (dear (now (ranking .entry))) (now (page .entry) .sound .table) (shown (now (page .entry) .figures)) ⌝ }
 {
-    let (floor, floors_moved) = swept_floors(ranking, sound, &figures.floor);
-    let mut row = figures.row;
-    let mut at = figures.ceiling.at;
+    let sound = page.sound;
+    let (floor, floors_moved) = swept_floors(ranking, &sound, &page.figures.floor);
+    let mut row = page.figures.row;
+    let mut at = page.figures.ceiling.at;
     let mut ceilings_moved = false;
     for i in 0..sound.table.grades {
-        match lowered_ceiling(ranking, sound, i + 1, &figures.ceiling) {
+        match lowered_ceiling(ranking, &sound, i + 1, &page.figures.ceiling) {
             Some(choice) => {
                 at[i] = choice.cost;
                 row[i] = choice.row;
@@ -90,13 +93,14 @@ pub fn sweep_once<R: Rounding>(ranking: &R, sound: &SoundTable, figures: &Figure
         }
     }
     let ceiling = Column { at };
-    Sweep { figures: Figures { row, floor, ceiling }, moved: floors_moved || ceilings_moved }
+    let figures = Figures { row, floor, ceiling };
+    Sweep { page: Page { sound, figures }, moved: floors_moved || ceilings_moved }
 }
 
 /// What several sweeps come to.
 #[derive(Clone, Copy)]
 pub struct Swept {
-    pub figures: Figures,
+    pub page: Page,
     /// How many sweeps ran.
     pub runs: usize,
     /// Whether the last one changed no floor and no ceiling.
@@ -104,16 +108,17 @@ pub struct Swept {
 }
 
 /// Sweeps n times, or up to the first sweep that changes no floor and no ceiling.
-pub fn sweep_up_to<R: Rounding>(ranking: &R, sound: &SoundTable, figures: &Figures, n: usize) -> Swept
-    ensures { λ r. ⌜ (shown (r .figures), (r .runs, r .settled)) ≡ sweeps (R·Ranking .ranks (now (ranking .entry))) (cheap (now (ranking .entry))) (dear (now (ranking .entry))) (now (sound .entry) .table) n (shown (now (figures .entry))) ⌝ }
+pub fn sweep_up_to<R: Rounding>(ranking: &R, page: &Page, n: usize) -> Swept
+    ensures table { λ r. ⌜ r .page .sound ≡ now (page .entry) .sound ⌝ }
+    ensures after { λ r. ⌜ (shown (r .page .figures), (r .runs, r .settled)) ≡ sweeps (R·Ranking .ranks (now (ranking .entry))) (cheap (now (ranking .entry))) (dear (now (ranking .entry))) (now (page .entry) .sound .table) n (shown (now (page .entry) .figures)) ⌝ }
 {
-    let mut figures = *figures;
+    let mut page = *page;
     for turn in 0..n {
-        let sweep = sweep_once(ranking, sound, &figures);
-        figures = sweep.figures;
+        let sweep = sweep_once(ranking, &page);
+        page = sweep.page;
         if !sweep.moved {
-            return Swept { figures, runs: turn + 1, settled: true };
+            return Swept { page, runs: turn + 1, settled: true };
         }
     }
-    Swept { figures, runs: n, settled: false }
+    Swept { page, runs: n, settled: false }
 }

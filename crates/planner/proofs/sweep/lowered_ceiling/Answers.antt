@@ -39,6 +39,7 @@ returns-then-cheaper g c =
     record {
       is = ap (λ v. Some (record { row = b .row; cost = v })) is ∙ lower-yes le cheap dear t old best b (c .in-Continue-best .ensures tt .is) (ap (λ v. le old v) (sym is) ∙ not-true (le old x) (sym (c .if-cheaper .ensures tt)));
       within = rw is (dear-within le cheap dear (g .R·Rounding·met .rounds s) t (b .cost) (c .in-Continue-best .ensures tt .within));
+      row = c .in-Continue-best .ensures tt .row;
     }
 
 pub returns-else-cheaper : need.returns-else-cheaper
@@ -56,4 +57,5 @@ returns-else-cheaper g c =
     record {
       is = lower-no le cheap dear t old best b (c .in-Continue-best .ensures tt .is) (ap (λ v. le old v) (sym is) ∙ not-false (le old x) (sym (c .if-cheaper .ensures tt)));
       within = tt;
+      row = tt;
     }

@@ -7,7 +7,7 @@ use Rattle.std.proofs.shelf.Lists.{getD-replicate}
 use Rattle.rankings.specs.Costs.{Cost, Within, Modest, times, zero}
 use Rattle.rankings.proofs.Sizes.{within-more, times-within}
 use Rattle.table.specs.declared.table.Table.{Table}
-use Rattle.planner.proofs.start.start_figures.Needs as need
+use Rattle.planner.proofs.start.start_page.Needs as need
 
 -- q · b times a row's cost is a figure in range
 start-within : (t : Table) (c : Cost) → Within 100000 c → Within (10 ^ 10) (times (t .fineness * t .denominator) c)
@@ -36,5 +36,5 @@ ghost-floor g c = (every (c .scale-lowest .result) (rw (c .scale-lowest .ensures
 pub ghost-ceiling : need.ghost-ceiling
 ghost-ceiling g c = (every (c .scale-highest .result) (rw (c .scale-highest .ensures .is) (start-within (c .args .sound .now .table) (c .dearest-cost .result) (c .dearest-cost .ensures .within))), (refl, tt))
 
-pub ghost-result : need.ghost-result
-ghost-result g c = (c .args .sound .now .table .firstlong, tt)
+pub ghost-figures : need.ghost-figures
+ghost-figures g c = (c .args .sound .now .table .firstlong, tt)
