@@ -18,6 +18,7 @@ ltZ-adds x y z = grind (arith, ints)
 pub scaled : (k : ℕ) (x y : ℤ) → k * (up x + down y) ≡ up (pos k *ℤ x) + down (pos k *ℤ y)
 scaled k x y = omega (arith, mul-add k (up x) (down y), product-is (pos k) x, product-is (pos k) y)
 
+-- both answers of a comparison, at once
 module _ (k : ℕ) (x y : ℤ) (h : 0 < k) where
   at-most : (t : Bool) → leZ x y ≡ t → t ≡ leZ (pos k *ℤ x) (pos k *ℤ y)
   at-most true e = true-is-le (pos k *ℤ x) (pos k *ℤ y) (omega (arith, scaled k x y, scaled k y x, mul-le-mul-left k (le-true x y e)))
