@@ -1,6 +1,6 @@
 pub mod Lines
 pub mod Places
 pub mod Spans
+pub mod Render
 pub mod Read
 pub mod Whole
-pub mod Render

@@ -2,32 +2,29 @@ ghost use mathlib.Core.Path.{_≡_};
 ghost use Prim.Native.Nat.{_+_, _≤_, _<_};
 ghost use lib.ListN.{length};
 ghost use Rattle.std.specs.declared.result.Result.the-variants.{Ok, Err};
-ghost use Rattle.table.specs.Ranges.{Within, FirstsIn};
-ghost use Rattle.sheet.specs.Read.{FaultIn};
-ghost use Rattle.sheet.specs.Spans.{SpanIn, SpansIn};
+ghost use Rattle.sheet.specs.Read.{FaultIn, GradeRead, GradesRead};
 use crate::fault::TextFault;
 use crate::header::Header;
+use crate::kind_reading::grade_at;
 use crate::labels::Span;
-use crate::line_reading::line_at;
-use crate::lines::Line;
 use crate::ranges::count;
 use table::MAX_GRADES;
 
-/// The line of the grade `number`, the sheet's line `line`: its first row, where its label lies, and the place after it.
+/// The line of the grade `i + 1`, the sheet's line `line`: its first row, where its label lies, and the place after it.
 fn grade_line(
     sheet: &[u8],
     at: usize,
     line: usize,
-    number: usize,
+    i: usize,
     rows: usize,
 ) -> Result<(usize, Span, usize), TextFault>
-    requires { ⌜ number ≤ 32 ⌝ }
-    ensures { λ r. ⌜ elim r [ Ok p ↦ Within 1 rows (p .0) × SpanIn (length (now (sheet .entry))) (p .1) × (p .2 ≤ length (now (sheet .entry))) | Err e ↦ FaultIn line line e ] ⌝ }
+    requires { ⌜ i < 32 ⌝ }
+    ensures { λ r. ⌜ elim r [ Ok p ↦ GradeRead (now (sheet .entry)) at i rows (p .0) (p .1) (p .2) | Err e ↦ FaultIn line line e ] ⌝ }
 {
-    let Ok((Line::Grade(grade), next)) = line_at(sheet, at) else {
+    let Some((grade, next)) = grade_at(sheet, at) else {
         return Err(TextFault::Form { line });
     };
-    if grade.number != number as i64 {
+    if grade.number != (i + 1) as i64 {
         return Err(TextFault::Range { line });
     }
     let Some(first_row) = count(grade.first_row, 1, rows) else {
@@ -51,13 +48,13 @@ pub fn read_grades(
     header: &Header,
 ) -> Result<([usize; MAX_GRADES], [Span; MAX_GRADES], usize), TextFault>
     requires { ⌜ at ≤ length (now sheet) ⌝ }
-    ensures { λ r. ⌜ elim r [ Ok p ↦ FirstsIn (now (header .entry) .grades) (now (header .entry) .rows) (p .0) × SpansIn (now (header .entry) .grades) (length (now (sheet .entry))) (p .1) × (p .2 ≤ length (now (sheet .entry))) | Err e ↦ FaultIn 2 (1 + now (header .entry) .grades) e ] ⌝ }
+    ensures { λ r. ⌜ elim r [ Ok p ↦ GradesRead (now (sheet .entry)) at (now (header .entry) .grades) (now (header .entry) .rows) (p .0) (p .1) (p .2) | Err e ↦ FaultIn 2 (1 + now (header .entry) .grades) e ] ⌝ }
 {
     let mut first_row = [0; MAX_GRADES];
     let mut label = [Span { start: 0, end: 0 }; MAX_GRADES];
     let mut at = at;
     for i in 0..header.grades {
-        let (first, span, next) = grade_line(sheet, at, 2 + i, i + 1, header.rows)?;
+        let (first, span, next) = grade_line(sheet, at, 2 + i, i, header.rows)?;
         first_row[i] = first;
         label[i] = span;
         at = next;

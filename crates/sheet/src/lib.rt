@@ -6,6 +6,7 @@ mod figure_reading;
 mod grade_reading;
 mod header;
 mod header_reading;
+mod kind_reading;
 mod labels;
 mod line_reading;
 mod line_writing;

@@ -1,23 +1,17 @@
 use native.Mathlib.Omega.{arith}
 use borrow.Author.Needs.{needs}
 use lib.ListN.{length-set}
-use Rattle.table.specs.Ranges.{Within}
-use Rattle.sheet.specs.Spans.{SpanIn, span0}
-use Rattle.sheet.proofs.Keeps.{set-more}
-use lib.ListN.{length}
+use Rattle.sheet.proofs.GradeSteps.{grades-none, grades-more}
 use Rattle.sheet.proofs.grade_reading.read_grades.Needs as need
 
 pub loop-i-holds : need.loop-i-holds
-loop-i-holds c = (search needs, search needs, c .pre, λ i h. omega arith, λ i h. omega arith)
+loop-i-holds c = (search needs, search needs, grades-none (c .args .sheet .now) (c .args .at) (c .args .header .now .rows) _ _ (c .pre))
 
 pub loop-i-again : need.loop-i-again
 loop-i-again c =
-    let told = c .in-Continue-first .ensures tt in
     let inv = c .loop-i .inv in
-    let i = c .loop-i .i in (
+    let read = c .in-Continue-first in (
       simp length-set (inv .0),
       simp length-set (inv .1),
-      told .2,
-      set-more (Within 1 (c .args .header .now .rows)) (c .loop-i .first-row) i (c .in-Continue-first .first) 0 (omega arith) (told .0) (inv .3),
-      set-more (SpanIn (length (c .args .sheet .now))) (c .loop-i .label) i (c .in-Continue-first .span) span0 (omega arith) (told .1) (inv .4),
+      grades-more (c .args .sheet .now) (c .args .at) (c .loop-i .at) (c .loop-i .i) (c .args .header .now .rows) (c .loop-i .first-row) (c .loop-i .label) (read .first) (read .span) (read .next) (omega arith) (omega arith) (inv .2) (read .ensures tt),
     )
