@@ -6,7 +6,7 @@ ghost use Prim.Native.Nat.{_+_, _≤_};
 ghost use lib.ListN.{length};
 ghost use Rattle.std.specs.Written.{decimal, signed};
 ghost use Rattle.text.specs.Fields.{byteOf, numberText, labelText};
-ghost use Rattle.text.specs.Writing.{put, Writes};
+ghost use Rattle.text.specs.Writing.{put, Writes, ReadsBack};
 use crate::end::End;
 
 /// The base of the digits.
@@ -73,9 +73,10 @@ pub fn write_number(out: &mut [u8], at: usize, z: i64) -> Option<usize>
     }
 }
 
-/// Writes a number and the byte that ends its field.
+/// Writes a number and the byte that ends its field. At that place it then reads back.
 pub fn write_field(out: &mut [u8], at: usize, z: i64, end: End) -> Option<usize>
-    ensures { λ r. ⌜ Writes (now (out .entry)) at (numberText (byteOf end) z) r (now (out .exit)) ⌝ }
+    ensures back { λ r. ⌜ ReadsBack (now (out .entry)) at (byteOf end) z r (now (out .exit)) ⌝ }
+    ensures text { λ r. ⌜ Writes (now (out .entry)) at (numberText (byteOf end) z) r (now (out .exit)) ⌝ }
 {
     let next = write_number(out, at, z)?;
     write_byte(out, next, end.byte())
