@@ -6,7 +6,7 @@ ghost use lib.ListN.{length, drop};
 ghost use Rattle.std.specs.Results.{Cases};
 ghost use Rattle.text.specs.Fields.{byteOf};
 ghost use Rattle.text.specs.Reading.{Reads, seen};
-ghost use Rattle.sheet.specs.Lines.{fourText, headerText, gradeText, rowText, arcText, figureText, lineText, GoodFour, GoodHeader, GoodGrade, GoodRow, GoodArc, GoodFigure, Good, fourOf, headerOf, gradeOf, rowOf, arcOf, figureOf, entryOf};
+ghost use Rattle.sheet.specs.Lines.{fourText, headerText, gradeText, rowText, arcText, figureText, lineText, GoodFour, GoodHeader, GoodGrade, GoodRow, GoodArc, GoodFigure, Good, fourOf, headerOf, gradeOf, rowOf, arcOf, figureOf, entryOf, PrefixFree};
 ghost use Rattle.sheet.specs.Places.{seenAt, labelOf};
 use crate::fault::TextFault;
 use crate::lines::ArcLine;
@@ -116,9 +116,10 @@ fn read_figure(bytes: &[u8]) -> Option<(FigureLine, &[u8])>
     Some((line, rest))
 }
 
-/// The line at the front, and what follows it.
+/// The line at the front, and what follows it. No bytes begin with two lines.
 pub fn read_line(bytes: &[u8]) -> Option<(Line<'_>, &[u8])>
-    ensures { λ r. ⌜ Reads Good lineText (now (bytes .entry)) (seen entryOf r) ⌝ }
+    ensures reads { λ r. ⌜ Reads Good lineText (now (bytes .entry)) (seen entryOf r) ⌝ }
+    ensures alone { λ _. ⌜ PrefixFree ⌝ }
 {
     match bytes {
         [b's', b'h', b'e', b'e', b't', b' ', rest @ ..] => {
