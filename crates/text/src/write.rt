@@ -1,8 +1,9 @@
 //! Writing: into lent bytes from a place on. The answer is the place after, or `None` where there is no room.
 
 ghost use mathlib.Core.Path.{_≡_};
+ghost use mathlib.Core.Bool.{true, false};
 ghost use mathlib.Core.List.{[], _∷_};
-ghost use Prim.Native.Nat.{_+_, _≤_};
+ghost use Prim.Native.Nat.{_+_, _≤_, _<_};
 ghost use lib.ListN.{length};
 ghost use Rattle.std.specs.Written.{decimal, signed};
 ghost use Rattle.text.specs.Fields.{byteOf, numberText, labelText};
@@ -11,6 +12,13 @@ use crate::end::End;
 
 /// The base of the digits.
 const TEN: u64 = 10;
+
+/// Whether `n` bytes have room in `all` from the place `at` on.
+fn has_room(all: usize, at: usize, n: usize) -> bool
+    ensures { λ r. ⌜ elim r [ true ↦ at + n ≤ all | false ↦ all < at + n ] ⌝ }
+{
+    at <= all && n <= all - at
+}
 
 /// How many digits `n` has.
 fn width(n: u64) -> usize
@@ -54,8 +62,7 @@ fn write_byte(out: &mut [u8], at: usize, b: u8) -> Option<usize>
 fn write_natural(out: &mut [u8], at: usize, n: u64) -> Option<usize>
     ensures { λ r. ⌜ Writes (now (out .entry)) at (decimal n) r (now (out .exit)) ⌝ }
 {
-    let w = width(n);
-    if at > out.len() || w > out.len() - at {
+    if !has_room(out.len(), at, width(n)) {
         return None;
     }
     Some(put_natural(out, at, n))
@@ -87,7 +94,7 @@ pub fn write_bytes(out: &mut [u8], at: usize, bytes: &[u8]) -> Option<usize>
     ensures { λ r. ⌜ Writes (now (out .entry)) at (now (bytes .entry)) r (now (out .exit)) ⌝ }
 {
     let n = bytes.len();
-    if at > out.len() || n > out.len() - at {
+    if !has_room(out.len(), at, n) {
         return None;
     }
     out[at..at + n].copy_from_slice(bytes);
