@@ -10,11 +10,6 @@ use Rattle.text.proofs.Reading.{first-none, first-then}
 use Rattle.sheet.specs.Lines.{blank, fourText, GoodFour}
 use Rattle.sheet.proofs.line_reading.read_arc.Needs as need
 
-pub returns-in-Break-number : need.returns-in-Break-number
-returns-in-Break-number c =
-    rw (c .from-residual .ensures)
-    (c .in-Break-number .ensures tt)
-
 pub returns : need.returns
 returns c =
     let f0 : SFits w64 (c .in-Continue-number .number) = search needs in
