@@ -1,13 +1,13 @@
--- Each way out by one field more: what was read so far, and then the field that was not there, or the whole line.
+-- Each way out by one field more: what was read so far, and then the field that was not there, or the whole.
 use borrow.Author.Needs.{needs}
 use mir.Syntax.{w64}
 use mir.Val.{SFits}
 use Rattle.std.specs.declared.option.Option.the-variants.{Some, None}
 use Rattle.std.proofs.shelf.Signed.{toZ-ofZ}
 use Rattle.text.specs.Reading.{both, Each}
-use Rattle.text.specs.Fields.{Small, Label, labelText}
+use Rattle.text.specs.Fields.{byteOf, Small, Label, numberText, labelText}
 use Rattle.text.proofs.Reading.{first-none, first-then}
-use Rattle.sheet.specs.Lines.{blank, last}
+use Rattle.sheet.specs.Lines.{blank, fourText, GoodFour}
 use Rattle.sheet.proofs.line_reading.read_grade.Needs as need
 
 pub returns-in-Break-number : need.returns-in-Break-number
