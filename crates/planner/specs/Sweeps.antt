@@ -8,7 +8,7 @@ use Rattle.std.specs.declared.option.Option.{Option}
 use Rattle.std.specs.declared.option.Option.the-variants.{Some, None}
 use Rattle.rankings.specs.Costs.{Cost}
 use Rattle.table.specs.declared.table.Table.{Table}
-use Rattle.table.specs.declared.plan.Figures.{Figures}
+use Rattle.table.specs.declared.figures.Figures.{Figures}
 use Rattle.table.specs.Lookahead.{figureAt, scaling}
 use Rattle.planner.specs.declared.choice.Choice.{Choice}
 use Rattle.planner.specs.Choices.{cheapestRow}

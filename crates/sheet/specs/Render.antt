@@ -36,7 +36,7 @@ figuresOf grades None = 0
 
 -- the first line, with the number of figure lines that follow
 abbrev pub headerEntry : Table → ℕ → Entry
-headerEntry t figures = header (pos (t .grades), (pos (t .rows), (pos (t .arcs), (pos (t .total), (pos (t .numerator), (pos (t .denominator), (pos (t .fineness), pos figures)))))))
+headerEntry t figures = header ((pos (t .grades), (pos (t .rows), (pos (t .arcs), pos (t .total)))), (pos (t .numerator), (pos (t .denominator), (pos (t .fineness), pos figures))))
 
 -- the line of the grade i + 1, from the first rows and its label
 abbrev pub gradeEntry : List ℕ → List ℕ → ℕ → Entry
@@ -46,7 +46,7 @@ gradeEntry firsts label i = grade (pos (i + 1), (pos (getD firsts i 0), label))
 abbrev pub rowEntry : List Row → List ℕ → ℕ → Entry
 rowEntry rs label i =
     let r = getD rs i row0 in
-    row (pos (i + 1), (pos (r .next), (r .cost .0, (r .cost .1, (pos (r .«first_arc»), label)))))
+    row ((pos (i + 1), (pos (r .next), (r .cost .0, r .cost .1))), (pos (r .«first_arc»), label))
 
 -- the line of the arc i + 1
 abbrev pub arcEntry : List Arc → ℕ → Entry
@@ -57,8 +57,8 @@ arcEntry xs i =
 -- the figure line of the grade i + 1
 abbrev pub figureEntry : Figures → ℕ → Entry
 figureEntry f i =
-    let low = getD (f .floor) i (pos 0, pos 0) in
-    let high = getD (f .ceiling) i (pos 0, pos 0) in
+    let low = getD (f .floor .at) i (pos 0, pos 0) in
+    let high = getD (f .ceiling .at) i (pos 0, pos 0) in
     figure (pos (i + 1), (pos (getD (f .row) i 0), (low .0, (low .1, (high .0, high .1)))))
 
 -- the lines of each kind

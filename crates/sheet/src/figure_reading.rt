@@ -12,6 +12,7 @@ use crate::lines::FigureLine;
 use crate::lines::Line;
 use crate::ranges::count;
 use crate::ranges::near;
+use table::Column;
 use table::Figures;
 use table::MAX_FIGURE_PART;
 use table::MAX_GRADES;
@@ -89,6 +90,8 @@ pub fn read_figures(
         ceiling[i] = figure.ceiling;
         at = next;
     }
+    let floor = Column { at: floor };
+    let ceiling = Column { at: ceiling };
     Ok((
         Some(Figures {
             row,

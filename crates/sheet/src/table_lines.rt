@@ -89,8 +89,8 @@ pub fn figure_line(figures: &Figures, i: usize) -> Line<'static>
     requires { ⌜ i < 32 ⌝ ∗ ⌜ getD (now figures .row) i 0 ≤ 96 ⌝ }
     ensures { λ r. ⌜ entryOf r ≡ figureEntry (now (figures .entry)) i ⌝ }
 {
-    let (floor_first, floor_second) = figures.floor[i];
-    let (ceiling_first, ceiling_second) = figures.ceiling[i];
+    let (floor_first, floor_second) = figures.floor.at[i];
+    let (ceiling_first, ceiling_second) = figures.ceiling.at[i];
     Line::Figure(FigureLine {
         grade: (i + 1) as i64,
         row: figures.row[i] as i64,

@@ -8,7 +8,7 @@ use Rattle.std.specs.declared.option.Option.{Option}
 use Rattle.std.specs.declared.option.Option.the-variants.{Some, None}
 use Rattle.rankings.specs.Costs.{Cost, times}
 use Rattle.table.specs.declared.table.Table.{Table}
-use Rattle.table.specs.declared.plan.Figures.{Figures}
+use Rattle.table.specs.declared.figures.Figures.{Figures}
 use Rattle.table.specs.declared.fault.FiguresFault.{FiguresFault}
 use Rattle.table.specs.declared.fault.FiguresFault.the-variants.{PlanRow, Floor, Ceiling}
 use Rattle.table.specs.Chains.{rowsOf}

@@ -5,7 +5,7 @@ ghost use Rattle.table.specs.Ranges.{Within};
 ghost use Rattle.table.specs.Chains.{arcsOf};
 ghost use Rattle.std.specs.Slices.{found};
 ghost use Rattle.table.specs.Lookahead.{figureAt, mean, scaling, lookaheadOf};
-use crate::figures::Column;
+use crate::column::Column;
 use crate::sound::SoundTable;
 use rankings::add;
 use rankings::scale;

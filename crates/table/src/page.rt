@@ -1,5 +1,5 @@
 ghost use Rattle.table.specs.Ranges.{FirstsIn};
-use crate::plan::Figures;
+use crate::figures::Figures;
 use crate::sound::SoundTable;
 
 /// A sound table with figures for it: each grade's plan row is a row of the table.
