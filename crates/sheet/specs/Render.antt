@@ -3,7 +3,6 @@ use mathlib.Core.List.{List, [], _++_}
 use Prim.Native.Nat.{ℕ, zero, suc, _+_, _-_}
 use lib.IntN.{pos}
 use lib.ListN.{getD, take, drop}
-use denote.Ref.{RefT}
 use Rattle.std.specs.declared.option.Option.{Option}
 use Rattle.std.specs.declared.option.Option.the-variants.{Some, None}
 use Rattle.table.specs.declared.figures.Figures.{Figures}
@@ -88,8 +87,3 @@ render t f gradeLabel rowLabel =
     ++ arcsText (t .arc) (t .arcs))
     ++ figurePart (t .grades) f)
     ++ lineText end
-
--- figures that are lent, if any
-abbrev pub lent : Option (RefT Figures) → Option Figures
-lent (Some f) = Some (f .now)
-lent None = None

@@ -6,7 +6,7 @@ ghost use Rattle.std.specs.declared.result.Result.the-variants.{Ok, Err};
 ghost use Rattle.text.specs.Writing.{Writes};
 ghost use Rattle.table.specs.Ranges.{FirstsIn};
 ghost use Rattle.sheet.specs.Read.{PlansIn};
-ghost use Rattle.sheet.specs.Render.{labelsOf, gradesText, rowsText, arcsText, figuresText, figurePart, figuresOf, render, lent};
+ghost use Rattle.sheet.specs.Render.{labelsOf, gradesText, rowsText, arcsText, figuresText, figurePart, figuresOf, render};
 ghost use Rattle.sheet.specs.Spans.{SpansIn};
 use crate::fault::TextFault;
 use crate::labels::Labels;
@@ -90,10 +90,10 @@ fn write_figure_part(
     out: &mut [u8],
     at: usize,
     table: &Table,
-    figures: Option<&Figures>,
+    figures: &Option<Figures>,
 ) -> Option<usize>
-    requires { ⌜ PlansIn (now table .grades) (now table .rows) (lent figures) ⌝ ∗ ⌜ at ≤ length (now out) ⌝ }
-    ensures { λ r. ⌜ Writes (now (out .entry)) at (figurePart (now (table .entry) .grades) (lent (figures .entry))) r (now (out .exit)) ⌝ }
+    requires { ⌜ PlansIn (now table .grades) (now table .rows) (now figures) ⌝ ∗ ⌜ at ≤ length (now out) ⌝ }
+    ensures { λ r. ⌜ Writes (now (out .entry)) at (figurePart (now (table .entry) .grades) (now (figures .entry))) r (now (out .exit)) ⌝ }
 {
     match figures {
         Some(figures) => write_figures(out, at, table, figures),
@@ -102,8 +102,8 @@ fn write_figure_part(
 }
 
 /// How many figure lines there are.
-fn figure_count(table: &Table, figures: Option<&Figures>) -> usize
-    ensures { λ r. ⌜ r ≡ figuresOf (now (table .entry) .grades) (lent (figures .entry)) ⌝ ∗ ⌜ r ≤ 32 ⌝ }
+fn figure_count(table: &Table, figures: &Option<Figures>) -> usize
+    ensures { λ r. ⌜ r ≡ figuresOf (now (table .entry) .grades) (now (figures .entry)) ⌝ ∗ ⌜ r ≤ 32 ⌝ }
 {
     match figures {
         Some(_) => table.grades,
@@ -115,12 +115,12 @@ fn figure_count(table: &Table, figures: Option<&Figures>) -> usize
 fn write_all(
     out: &mut [u8],
     table: &Table,
-    figures: Option<&Figures>,
+    figures: &Option<Figures>,
     labels: &Labels,
     old: &[u8],
 ) -> Option<usize>
-    requires { ⌜ SpansIn (now table .grades) (length (now old)) (now labels .grade) ⌝ ∗ ⌜ SpansIn (now table .rows) (length (now old)) (now labels .row) ⌝ ∗ ⌜ PlansIn (now table .grades) (now table .rows) (lent figures) ⌝ }
-    ensures { λ r. ⌜ Writes (now (out .entry)) 0 (render (now (table .entry)) (lent (figures .entry)) (labelsOf (now (old .entry)) (now (labels .entry) .grade)) (labelsOf (now (old .entry)) (now (labels .entry) .row))) r (now (out .exit)) ⌝ }
+    requires { ⌜ SpansIn (now table .grades) (length (now old)) (now labels .grade) ⌝ ∗ ⌜ SpansIn (now table .rows) (length (now old)) (now labels .row) ⌝ ∗ ⌜ PlansIn (now table .grades) (now table .rows) (now figures) ⌝ }
+    ensures { λ r. ⌜ Writes (now (out .entry)) 0 (render (now (table .entry)) (now (figures .entry)) (labelsOf (now (old .entry)) (now (labels .entry) .grade)) (labelsOf (now (old .entry)) (now (labels .entry) .row))) r (now (out .exit)) ⌝ }
 {
     let header = header_line(table, figure_count(table, figures));
     let at = write_line(out, 0, &header)?;
@@ -144,10 +144,10 @@ fn line_of(fault: TextFault) -> usize {
 pub fn write(
     out: &mut [u8],
     table: &Table,
-    figures: Option<&Figures>,
+    figures: &Option<Figures>,
     old: &[u8],
 ) -> Result<usize, WriteFault>
-    requires { ⌜ PlansIn (now table .grades) (now table .rows) (lent figures) ⌝ }
+    requires { ⌜ PlansIn (now table .grades) (now table .rows) (now figures) ⌝ }
     ensures { λ r. ⌜ elim r [ Ok n ↦ (n ≤ length (now (out .entry))) × (drop n (now (out .exit)) ≡ drop n (now (out .entry))) | Err e ↦ now (out .exit) ≡ now (out .entry) ] ⌝ }
 {
     let sheet = match read(old) {

@@ -1,0 +1,11 @@
+//! Count books: a shop's table, plan and figures, ruled for one ranking of costs.
+mod book;
+mod calls;
+mod limits;
+mod refusal;
+
+pub use book::Book;
+pub use calls::SweepCount;
+pub use limits::MAX_SWEEPS;
+pub use limits::RECOUNT_SWEEPS;
+pub use refusal::Refusal;
