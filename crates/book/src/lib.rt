@@ -2,10 +2,12 @@
 mod book;
 mod calls;
 mod limits;
+mod printing;
 mod refusal;
 
 pub use book::Book;
 pub use calls::SweepCount;
 pub use limits::MAX_SWEEPS;
 pub use limits::RECOUNT_SWEEPS;
+pub use printing::recount;
 pub use refusal::Refusal;

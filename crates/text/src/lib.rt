@@ -13,6 +13,7 @@ pub use limits::LABEL;
 pub use read::label;
 pub use read::number;
 pub use write::write_bytes;
+pub use write::write_count;
 pub use write::write_field;
 pub use write::write_label;
 pub use write::write_number;

@@ -6,7 +6,7 @@ ghost use mathlib.Core.List.{[], _∷_};
 ghost use Prim.Native.Nat.{_+_, _≤_, _<_};
 ghost use lib.ListN.{length};
 ghost use Rattle.std.specs.Written.{decimal, signed};
-ghost use Rattle.text.specs.Fields.{byteOf, numberText, labelText};
+ghost use Rattle.text.specs.Fields.{naturalText, byteOf, numberText, labelText};
 ghost use Rattle.text.specs.Writing.{put, Writes, ReadsBack};
 use crate::end::End;
 
@@ -86,6 +86,14 @@ pub fn write_field(out: &mut [u8], at: usize, z: i64, end: End) -> Option<usize>
     ensures text { λ r. ⌜ Writes (now (out .entry)) at (numberText (byteOf end) z) r (now (out .exit)) ⌝ }
 {
     let next = write_number(out, at, z)?;
+    write_byte(out, next, end.byte())
+}
+
+/// Writes a count and the byte that ends its field.
+pub fn write_count(out: &mut [u8], at: usize, n: u64, end: End) -> Option<usize>
+    ensures { λ r. ⌜ Writes (now (out .entry)) at (naturalText (byteOf end) n) r (now (out .exit)) ⌝ }
+{
+    let next = write_natural(out, at, n)?;
     write_byte(out, next, end.byte())
 }
 
