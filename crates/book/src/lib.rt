@@ -11,3 +11,4 @@ pub use limits::MAX_SWEEPS;
 pub use limits::RECOUNT_SWEEPS;
 pub use printing::recount;
 pub use refusal::Refusal;
+pub use sheet::MAX_SHEET;
