@@ -19,7 +19,7 @@ Writes xs at ys (Some j) zs = (j ≡ at + length ys) × (j ≤ length xs) × (zs
 Writes xs at ys None zs = (length xs < at + length ys) × (length zs ≡ length xs) × (take at zs ≡ take at xs)
 
 -- a number was written from at up to j: its text lies there, all other bytes stay, and what reads at that place reads the number
-pub record Lies (xs : List ℕ) (at end : ℕ) (z : ℤ) (j : ℕ) (zs : List ℕ) : Type 0 where
+pub record Placed (xs : List ℕ) (at end : ℕ) (z : ℤ) (j : ℕ) (zs : List ℕ) : Type 0 where
   pub before : take at zs ≡ take at xs
   pub here : drop at zs ≡ numberText end z ++ drop j zs
   pub after : drop j zs ≡ drop j xs
@@ -27,5 +27,5 @@ pub record Lies (xs : List ℕ) (at end : ℕ) (z : ℤ) (j : ℕ) (zs : List �
 
 -- the same of what a writer returned
 abbrev pub ReadsBack : List ℕ → ℕ → ℕ → ℤ → Option ℕ → List ℕ → Type 0
-ReadsBack xs at end z (Some j) zs = Lies xs at end z j zs
+ReadsBack xs at end z (Some j) zs = Placed xs at end z j zs
 ReadsBack xs at end z None zs = Unit {0}

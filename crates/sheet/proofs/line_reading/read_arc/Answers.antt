@@ -2,12 +2,8 @@
 use borrow.Author.Needs.{needs}
 use mir.Syntax.{w64}
 use mir.Val.{SFits}
-use Rattle.std.specs.declared.option.Option.the-variants.{Some, None}
 use Rattle.std.proofs.shelf.Signed.{toZ-ofZ}
-use Rattle.text.specs.Reading.{both, Each}
-use Rattle.text.specs.Fields.{byteOf, Small, Label, numberText, labelText}
-use Rattle.text.proofs.Reading.{first-none, first-then}
-use Rattle.sheet.specs.Lines.{blank, fourText, GoodFour}
+use Rattle.text.specs.Reading.{Each}
 use Rattle.sheet.proofs.line_reading.read_arc.Needs as need
 
 pub returns : need.returns

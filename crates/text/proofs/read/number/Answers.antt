@@ -1,18 +1,18 @@
-use mathlib.Core.Path.{_≡_, refl, sym, ap, subst, _∙_}
-use Prim.Native.Nat.{ℕ, suc, _+_, _-_, _≤_, _<_}
+use mathlib.Core.Path.{_≡_, refl, sym, subst, _∙_}
+use Prim.Native.Nat.{suc, _-_, _≤_}
 use native.Mathlib.Omega.{arith}
 use borrow.Author.Needs.{needs}
-use lib.IntN.{ℤ, pos, negsuc, _-ℤ_}
-use lib.ListN.{length, getD, take, drop}
+use lib.IntN.{pos, negsuc}
+use lib.ListN.{length, take, drop}
 use mir.Syntax.{w64}
-use mir.Val.{SFits, toZ, ofZ}
-use Rattle.std.specs.declared.option.Option.the-variants.{Some, None}
+use mir.Val.{SFits, toZ}
+use Rattle.std.specs.declared.option.Option.the-variants.{Some}
 use Rattle.std.proofs.shelf.Signed.{ints, toZ-ofZ}
 use Rattle.std.proofs.shelf.Tests.{ltb-true, ltb-false}
 use Rattle.std.proofs.shelf.Lists.{getD-past}
 use Rattle.text.specs.Reading.{Reads}
 use Rattle.text.specs.Fields.{byteOf, Short, Small, naturalText, numberText}
-use Rattle.text.proofs.Numbers.{front1, minus-none, minus-zero, minus-some, plain-none, plain-some}
+use Rattle.text.proofs.Numbers.{front1, minus-none, minus-zero, minus-some, plain-some}
 use Rattle.text.proofs.read.number.Needs as need
 use Rattle.text.proofs.read.number.Needs.{in-rest·by·then-bytes-lt1, in-rest·by·else-bytes-lt1·in-rest·}
 

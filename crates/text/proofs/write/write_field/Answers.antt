@@ -1,8 +1,7 @@
 use mathlib.Core.Path.{subst}
-use mathlib.Core.List.{List, [], _∷_}
+use mathlib.Core.List.{[], _∷_}
 use mir.Syntax.{w64}
 use mir.Val.{SFits}
-use Rattle.std.specs.declared.option.Option.the-variants.{None}
 use Rattle.std.specs.Written.{signed}
 use Rattle.std.proofs.shelf.Signed.{toZ-ofZ}
 use Rattle.text.specs.Fields.{byteOf, numberText}
