@@ -4,3 +4,6 @@ pub mod Keeps
 pub mod Series
 pub mod Parts
 pub mod GradeSteps
+pub mod RowSteps
+pub mod ArcSteps
+pub mod FigureSteps

@@ -76,7 +76,7 @@ fn write_arcs(out: &mut [u8], at: usize, table: &Table) -> Option<usize>
 
 fn write_figures(out: &mut [u8], at: usize, table: &Table, figures: &Figures) -> Option<usize>
     requires { ⌜ FirstsIn (now table .grades) (now table .rows) (now figures .row) ⌝ ∗ ⌜ at ≤ length (now out) ⌝ }
-    ensures { λ r. ⌜ Writes (now (out .entry)) at (figuresText (now (figures .entry)) (now (table .entry) .grades)) r (now (out .exit)) ⌝ }
+    ensures { λ r. ⌜ Writes (now (out .entry)) at (figuresText (now (figures .entry) .row) (now (figures .entry) .floor) (now (figures .entry) .ceiling) (now (table .entry) .grades)) r (now (out .exit)) ⌝ }
 {
     let mut at = at;
     for i in 0..table.grades {
