@@ -7,3 +7,4 @@ pub mod GradeSteps
 pub mod RowSteps
 pub mod ArcSteps
 pub mod FigureSteps
+pub mod HeaderSteps

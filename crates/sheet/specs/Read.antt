@@ -17,9 +17,10 @@ use Rattle.sheet.specs.declared.fault.TextFault.the-variants as fault
 use Rattle.sheet.specs.declared.labels.Span.{Span}
 use Rattle.sheet.specs.declared.lines.ArcLine.{ArcLine}
 use Rattle.sheet.specs.declared.lines.FigureLine.{FigureLine}
+use Rattle.sheet.specs.declared.lines.HeaderLine.{HeaderLine}
 use Rattle.sheet.specs.declared.lines.RowLine.{RowLine}
 use Rattle.sheet.specs.Lines.{header, grade, row, arc, figure, lineText}
-use Rattle.sheet.specs.Render.{partOf, labelsOf, gradesText, rowsText, arcsText, figuresText, figurePart, figuresOf}
+use Rattle.sheet.specs.Render.{partOf, labelsOf, gradesText, rowsText, arcsText, figuresText, figurePart, figuresOf, countsEntry}
 use Rattle.sheet.specs.Spans.{SpanIn, SpansIn}
 
 -- z as a count from low to high, and none exactly where it is not one
@@ -138,3 +139,19 @@ pub record FigurePartRead (sheet : List ℕ) (at : ℕ) (figured : Bool) (grades
   pub counted : cond figured grades 0 ≡ figuresOf grades figures
   pub ends : next ≤ length sheet
   pub text : drop at sheet ≡ figurePart grades figures ++ drop next sheet
+
+-- the first line says that, and next is the place after it
+pub record HeaderRead (sheet : List ℕ) (grades rows arcs total numerator denominator fineness figures next : ℕ) : Type 0 where
+  pub ends : next ≤ length sheet
+  pub text : sheet ≡ lineText (countsEntry grades rows arcs total numerator denominator fineness figures) ++ drop next sheet
+
+-- what the first line says
+pub record HeaderSaid (l : HeaderLine) (grades rows arcs total numerator denominator fineness figures : ℕ) : Type 0 where
+  pub one : l .grades ≡ pos grades
+  pub two : l .rows ≡ pos rows
+  pub three : l .arcs ≡ pos arcs
+  pub four : l .total ≡ pos total
+  pub five : l .numerator ≡ pos numerator
+  pub six : l .denominator ≡ pos denominator
+  pub seven : l .fineness ≡ pos fineness
+  pub eight : l .figures ≡ pos figures
