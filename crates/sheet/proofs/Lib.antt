@@ -8,3 +8,5 @@ pub mod RowSteps
 pub mod ArcSteps
 pub mod FigureSteps
 pub mod HeaderSteps
+pub mod Lengths
+pub mod Copied

@@ -28,3 +28,10 @@ Refused n fault.TooLong = 32768 < n
 Refused n (fault.Form l) = (n ≤ 32768) × Within 1 675 l
 Refused n (fault.Range l) = (n ≤ 32768) × Within 1 673 l
 Refused n (fault.NoLine p) = ⊥
+
+-- the line of a fault, 0 where it is none of a line
+abbrev pub lineOf : TextFault → ℕ
+lineOf fault.TooLong = 0
+lineOf (fault.Form l) = l
+lineOf (fault.Range l) = l
+lineOf (fault.NoLine p) = 0
