@@ -11,5 +11,5 @@ pub header-told : (sheet : List ℕ) (next : ℕ) (l : HeaderLine) (g r a d n b 
 header-told sheet next l g r a d n b q f said ends text =
     record {
       ends = ends;
-      text = text ∙ (λ j. lineText (header (said .one j, (said .two j, (said .three j, (said .four j, (said .five j, (said .six j, (said .seven j, said .eight j)))))))) ++ drop next sheet);
+      text = text ∙ (λ j. lineText (header ((said .one j, (said .two j, (said .three j, said .four j))), (said .five j, (said .six j, (said .seven j, said .eight j))))) ++ drop next sheet);
     }

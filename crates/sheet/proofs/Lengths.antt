@@ -18,7 +18,7 @@ use Rattle.table.specs.declared.rows.Arc.{Arc}
 use Rattle.table.specs.declared.rows.Row.{Row}
 use Rattle.table.specs.declared.table.Table.{Table}
 use Rattle.table.specs.Ranges.{FirstsIn, RowIn, ArcIn, FigureIn, row0, arc0}
-use Rattle.sheet.specs.Lines.{lineText, header, grade, row, arc, figure, end, blank, last}
+use Rattle.sheet.specs.Lines.{lineText, header, grade, row, arc, figure, end, blank, fourText}
 use Rattle.sheet.specs.Read.{PlansIn}
 use Rattle.sheet.specs.Render.{series, countsEntry, gradeEntry, rowEntry, arcEntry, figureEntry, gradesText, rowsText, arcsText, figuresText, figurePart, figuresOf, headerEntry, render}
 
@@ -28,6 +28,9 @@ count-long e k n some small fits = omega (arith, length-append (decimal n) (e �
 part-long : (e k : ℕ) (z : ℤ) → 0 < k → natAbs z < 10 ^ k → natAbs z < 2 ^ 64 → length (numberText e z) ≤ k + 2
 part-long e k (pos n) some small fits = omega (arith, count-long e k n some small fits)
 part-long e k (negsuc n) some small fits = omega (arith, length-append (45 ∷ decimal (suc n)) (e ∷ []), length-decimal-le k (suc n) some small fits)
+
+four-long : (e : ℕ) (x y z w : ℤ) → length (fourText e (x, (y, (z, w)))) ≡ length (blank x) + length (blank y) + length (blank z) + length (numberText e w)
+four-long e x y z w = omega (arith, length-append (blank x) (blank y ++ (blank z ++ numberText e w)), length-append (blank y) (blank z ++ numberText e w), length-append (blank z) (numberText e w))
 
 series-long : (f : ℕ → List ℕ) (b n : ℕ) → ((k : ℕ) → k < n → length (f k) ≤ b) → length (series f n) ≤ n * b
 series-long f b zero each = omega arith
@@ -46,7 +49,7 @@ grade-long i first label p q r =
       length-append label (10 ∷ []),
     )
 
-row-long : (i x w : ℕ) (y z : ℤ) (label : List ℕ) → i < 96 → x ≤ 96 → natAbs y ≤ 100000 → natAbs z ≤ 100000 → w ≤ 512 → length label ≤ 24 → length (lineText (row (pos (i + 1), (pos x, (y, (z, (pos w, label))))))) ≤ 55
+row-long : (i x w : ℕ) (y z : ℤ) (label : List ℕ) → i < 96 → x ≤ 96 → natAbs y ≤ 100000 → natAbs z ≤ 100000 → w ≤ 512 → length label ≤ 24 → length (lineText (row ((pos (i + 1), (pos x, (y, z))), (pos w, label)))) ≤ 55
 row-long i x w y z label p q r s t u =
     omega (
       arith,
@@ -55,10 +58,8 @@ row-long i x w y z label p q r s t u =
       part-long 32 6 y (omega arith) (omega arith) (omega arith),
       part-long 32 6 z (omega arith) (omega arith) (omega arith),
       count-long 32 3 w (omega arith) (omega arith) (omega arith),
-      length-append (blank (pos (i + 1))) (blank (pos x) ++ (blank y ++ (blank z ++ (blank (pos w) ++ labelText label)))),
-      length-append (blank (pos x)) (blank y ++ (blank z ++ (blank (pos w) ++ labelText label))),
-      length-append (blank y) (blank z ++ (blank (pos w) ++ labelText label)),
-      length-append (blank z) (blank (pos w) ++ labelText label),
+      four-long 32 (pos (i + 1)) (pos x) y z,
+      length-append (fourText 32 (pos (i + 1), (pos x, (y, z)))) (blank (pos w) ++ labelText label),
       length-append (blank (pos w)) (labelText label),
       length-append label (10 ∷ []),
     )
@@ -71,9 +72,9 @@ arc-long i x y z p q r s =
       count-long 32 4 x (omega arith) (omega arith) (omega arith),
       count-long 32 4 y (omega arith) (omega arith) (omega arith),
       count-long 10 4 z (omega arith) (omega arith) (omega arith),
-      length-append (blank (pos (i + 1))) (blank (pos x) ++ (blank (pos y) ++ last (pos z))),
-      length-append (blank (pos x)) (blank (pos y) ++ last (pos z)),
-      length-append (blank (pos y)) (last (pos z)),
+      length-append (blank (pos (i + 1))) (blank (pos x) ++ (blank (pos y) ++ numberText 10 (pos z))),
+      length-append (blank (pos x)) (blank (pos y) ++ numberText 10 (pos z)),
+      length-append (blank (pos y)) (numberText 10 (pos z)),
     )
 
 figure-long : (i x : ℕ) (y z u v : ℤ) → i < 32 → x ≤ 96 → natAbs y ≤ 10 ^ 10 → natAbs z ≤ 10 ^ 10 → natAbs u ≤ 10 ^ 10 → natAbs v ≤ 10 ^ 10 → length (lineText (figure (pos (i + 1), (pos x, (y, (z, (u, v))))))) ≤ 62
@@ -86,11 +87,11 @@ figure-long i x y z u v p q r s t w =
       part-long 32 11 z (omega arith) (omega arith) (omega arith),
       part-long 32 11 u (omega arith) (omega arith) (omega arith),
       part-long 10 11 v (omega arith) (omega arith) (omega arith),
-      length-append (blank (pos (i + 1))) (blank (pos x) ++ (blank y ++ (blank z ++ (blank u ++ last v)))),
-      length-append (blank (pos x)) (blank y ++ (blank z ++ (blank u ++ last v))),
-      length-append (blank y) (blank z ++ (blank u ++ last v)),
-      length-append (blank z) (blank u ++ last v),
-      length-append (blank u) (last v),
+      length-append (blank (pos (i + 1))) (blank (pos x) ++ (blank y ++ (blank z ++ (blank u ++ numberText 10 v)))),
+      length-append (blank (pos x)) (blank y ++ (blank z ++ (blank u ++ numberText 10 v))),
+      length-append (blank y) (blank z ++ (blank u ++ numberText 10 v)),
+      length-append (blank z) (blank u ++ numberText 10 v),
+      length-append (blank u) (numberText 10 v),
     )
 
 head-long : (g r a d n b q f : ℕ) → g ≤ 32 → r ≤ 96 → a ≤ 512 → d ≤ 1000 → n ≤ 1000 → b ≤ 1000 → q ≤ 100 → f ≤ 32 → length (lineText (countsEntry g r a d n b q f)) ≤ 46
@@ -105,13 +106,9 @@ head-long g r a d n b q f p1 p2 p3 p4 p5 p6 p7 p8 =
       count-long 32 4 b (omega arith) (omega arith) (omega arith),
       count-long 32 4 q (omega arith) (omega arith) (omega arith),
       count-long 10 4 f (omega arith) (omega arith) (omega arith),
-      length-append (blank (pos g)) (blank (pos r) ++ (blank (pos a) ++ (blank (pos d) ++ (blank (pos n) ++ (blank (pos b) ++ (blank (pos q) ++ last (pos f))))))),
-      length-append (blank (pos r)) (blank (pos a) ++ (blank (pos d) ++ (blank (pos n) ++ (blank (pos b) ++ (blank (pos q) ++ last (pos f)))))),
-      length-append (blank (pos a)) (blank (pos d) ++ (blank (pos n) ++ (blank (pos b) ++ (blank (pos q) ++ last (pos f))))),
-      length-append (blank (pos d)) (blank (pos n) ++ (blank (pos b) ++ (blank (pos q) ++ last (pos f)))),
-      length-append (blank (pos n)) (blank (pos b) ++ (blank (pos q) ++ last (pos f))),
-      length-append (blank (pos b)) (blank (pos q) ++ last (pos f)),
-      length-append (blank (pos q)) (last (pos f)),
+      four-long 32 (pos g) (pos r) (pos a) (pos d),
+      four-long 10 (pos n) (pos b) (pos q) (pos f),
+      length-append (fourText 32 (pos g, (pos r, (pos a, pos d)))) (fourText 10 (pos n, (pos b, (pos q, pos f)))),
     )
 
 figures-long : (t : Table) (f : Option Figures) → PlansIn (t .grades) (t .rows) f → length (figurePart (t .grades) f) ≤ t .grades * 62

@@ -9,13 +9,13 @@ use Rattle.std.specs.declared.option.Option.the-variants.{Some, None}
 use Rattle.std.specs.Options.{mapped}
 use Rattle.std.proofs.shelf.Lists.{length-append, drop-more, take-rest}
 use Rattle.text.specs.Reading.{Reads, Each, both, Alone}
-use Rattle.text.specs.Fields.{Small}
+use Rattle.text.specs.Fields.{Small, Ends, numberText}
 use Rattle.text.proofs.Reading.{refused, returned, not-some, same-pair, both-alone}
 use Rattle.text.proofs.Numbers.{number-alone}
 use Rattle.text.proofs.Labels.{label-alone}
 use Rattle.sheet.specs.declared.lines.Line.{Line}
 use Rattle.sheet.specs.declared.lines.Line.the-variants as line
-use Rattle.sheet.specs.Lines.{Entry, header, grade, row, arc, figure, end, lineText, Good, HeaderOf, GradeOf, RowOf, ArcOf, FigureOf, headerText, gradeText, rowText, arcText, figureText, blank, last, GoodHeader, GoodGrade, GoodRow, GoodArc, GoodFigure, entryOf, PrefixFree}
+use Rattle.sheet.specs.Lines.{Entry, header, grade, row, arc, figure, end, lineText, Good, HeaderOf, GradeOf, RowOf, ArcOf, FigureOf, headerText, gradeText, rowText, arcText, figureText, blank, fourText, GoodFour, GoodHeader, GoodGrade, GoodRow, GoodArc, GoodFigure, entryOf, PrefixFree}
 use Rattle.sheet.specs.Places.{labelOf}
 
 -- one byte in front of what follows it
@@ -118,23 +118,23 @@ end-line bs us at = returned end us tt at (λ a rest h e. end-only us a rest h (
 blank-then : {B : Type 0} (H : B → Type 0) (h : B → List ℕ) → Alone H h → Alone (Each Small H) (both blank h)
 blank-then H h more = both-alone Small blank H h (number-alone 32 (omega arith)) more
 
-last-alone : Alone Small last
-last-alone = number-alone 10 (omega arith)
+four-alone : (e : ℕ) → Ends e → Alone GoodFour (fourText e)
+four-alone e ends = blank-then _ _ (blank-then _ _ (blank-then Small (numberText e) (number-alone e ends)))
 
 header-alone : Alone GoodHeader headerText
-header-alone = blank-then _ _ (blank-then _ _ (blank-then _ _ (blank-then _ _ (blank-then _ _ (blank-then _ _ (blank-then _ _ last-alone))))))
+header-alone = both-alone GoodFour (fourText 32) GoodFour (fourText 10) (four-alone 32 (omega arith)) (four-alone 10 (omega arith))
 
 grade-alone : Alone GoodGrade gradeText
 grade-alone = blank-then _ _ (blank-then _ _ label-alone)
 
 row-alone : Alone GoodRow rowText
-row-alone = blank-then _ _ (blank-then _ _ (blank-then _ _ (blank-then _ _ (blank-then _ _ label-alone))))
+row-alone = both-alone GoodFour (fourText 32) _ _ (four-alone 32 (omega arith)) (blank-then _ _ label-alone)
 
 arc-alone : Alone GoodArc arcText
-arc-alone = blank-then _ _ (blank-then _ _ (blank-then _ _ last-alone))
+arc-alone = four-alone 10 (omega arith)
 
 figure-alone : Alone GoodFigure figureText
-figure-alone = blank-then _ _ (blank-then _ _ (blank-then _ _ (blank-then _ _ (blank-then _ _ last-alone))))
+figure-alone = blank-then _ _ (blank-then _ _ (four-alone 10 (omega arith)))
 
 pub prefix-free : PrefixFree
 prefix-free (header a) b x y g h same =

@@ -8,7 +8,7 @@ use lib.IntN.{ℤ, pos}
 use lib.ListN.{length, take, drop, getD, set}
 use Rattle.std.proofs.shelf.Lists.{length-append, length-drop, length-take-le, take-append-drop, take-at, drop-at}
 use Rattle.text.specs.Fields.{labelText}
-use Rattle.sheet.specs.Lines.{Entry, GradeOf, RowOf, grade, row, lineText, blank}
+use Rattle.sheet.specs.Lines.{Entry, GradeOf, RowOf, grade, row, lineText, blank, fourText}
 use Rattle.sheet.specs.Render.{series, partOf}
 use Rattle.sheet.proofs.Series.{series-more}
 
@@ -30,7 +30,7 @@ label-part sheet at next front label h k cut =
 pub grade-front : (g : GradeOf) → lineText (grade g) ≡ (103 ∷ 32 ∷ (blank (g .0) ++ blank (g .1 .0))) ++ labelText (g .1 .1)
 grade-front g = simp append-assoc
 
-pub row-front : (r : RowOf) → lineText (row r) ≡ (114 ∷ 32 ∷ (blank (r .0) ++ (blank (r .1 .0) ++ (blank (r .1 .1 .0) ++ (blank (r .1 .1 .1 .0) ++ blank (r .1 .1 .1 .1 .0)))))) ++ labelText (r .1 .1 .1 .1 .1)
+pub row-front : (r : RowOf) → lineText (row r) ≡ (114 ∷ 32 ∷ (fourText 32 (r .0) ++ blank (r .1 .0))) ++ labelText (r .1 .1)
 row-front r = simp append-assoc
 
 -- lines that agree make one text

@@ -12,23 +12,23 @@ use Rattle.text.specs.Fields.{Label}
 use Rattle.table.specs.declared.rows.Row.{Row}
 use Rattle.table.specs.Ranges.{RowIn, row0}
 use Rattle.sheet.specs.declared.labels.Span.{Span}
-use Rattle.sheet.specs.Lines.{Good, row, lineText, blank}
+use Rattle.sheet.specs.Lines.{Good, row, lineText, blank, fourText}
 use Rattle.sheet.specs.Read.{RowRead, RowsRead}
 use Rattle.sheet.specs.Render.{rowEntry, labelsOf, partOf}
 use Rattle.sheet.specs.Spans.{SpanIn, span0}
 use Rattle.sheet.proofs.Keeps.{set-more}
 use Rattle.sheet.proofs.Parts.{label-part, row-front, read-more}
 
-pub row-told : (sheet : List ℕ) (at next i rows arcs : ℕ) (r : Row) (n x y z w : ℤ) (label : List ℕ) → Good (row (n, (x, (y, (z, (w, label)))))) × (drop at sheet ≡ lineText (row (n, (x, (y, (z, (w, label)))))) ++ drop next sheet) → n ≡ pos (i + 1) → x ≡ pos (r .next) → y ≡ r .cost .0 → z ≡ r .cost .1 → w ≡ pos (r .«first_arc») → RowIn rows arcs r → at < next → next ≤ length sheet → length label + 1 + at ≤ next → RowRead sheet at i rows arcs r (record { start = next - 1 - length label; end = next - 1 }) next
+pub row-told : (sheet : List ℕ) (at next i rows arcs : ℕ) (r : Row) (n x y z w : ℤ) (label : List ℕ) → Good (row ((n, (x, (y, z))), (w, label))) × (drop at sheet ≡ lineText (row ((n, (x, (y, z))), (w, label))) ++ drop next sheet) → n ≡ pos (i + 1) → x ≡ pos (r .next) → y ≡ r .cost .0 → z ≡ r .cost .1 → w ≡ pos (r .«first_arc») → RowIn rows arcs r → at < next → next ≤ length sheet → length label + 1 + at ≤ next → RowRead sheet at i rows arcs r (record { start = next - 1 - length label; end = next - 1 }) next
 row-told sheet at next i rows arcs r n x y z w label told number p q s t ranged lt ends room =
     let span : Span = record { start = next - 1 - length label; end = next - 1 } in
-    let is : partOf sheet span ≡ label = label-part sheet at next (114 ∷ 32 ∷ (blank n ++ (blank x ++ (blank y ++ (blank z ++ blank w))))) label lt ends (told .1 ∙ ap (λ l. l ++ drop next sheet) (row-front (n, (x, (y, (z, (w, label))))))) in
+    let is : partOf sheet span ≡ label = label-part sheet at next (114 ∷ 32 ∷ (fourText 32 (n, (x, (y, z))) ++ blank w)) label lt ends (told .1 ∙ ap (λ l. l ++ drop next sheet) (row-front ((n, (x, (y, z))), (w, label)))) in
     record {
       ranged = ranged;
       inside = (omega arith, omega arith);
       ends = ends;
-      label = subst Label (sym is) (told .0 .1 .1 .1 .1 .1);
-      text = told .1 ∙ (λ j. lineText (row (number j, (p j, (q j, (s j, (t j, sym is j)))))) ++ drop next sheet);
+      label = subst Label (sym is) (told .0 .1 .1);
+      text = told .1 ∙ (λ j. lineText (row ((number j, (p j, (q j, s j))), (t j, sym is j))) ++ drop next sheet);
     }
 
 pub rows-none : (sheet : List ℕ) (at rows arcs : ℕ) (rs : List Row) (spans : List Span) → at ≤ length sheet → RowsRead sheet at 0 rows arcs rs spans at
@@ -49,6 +49,6 @@ rows-more sheet start at i rows arcs rs spans r span next inside inside′ so-fa
           let ne : k ≢ i = omega arith in
           let that : getD rs k row0 ≡ getD (set rs i r) k row0 = sym (getD-set-other rs i k r row0 ne) in
           let there : getD spans k span0 ≡ getD (set spans i span) k span0 = sym (getD-set-other spans i k span span0 ne) in
-          λ j. lineText (row (pos (k + 1), (pos (that j .next), (that j .cost .0, (that j .cost .1, (pos (that j .«first_arc»), partOf sheet (there j))))))))
-          (told .text ∙ (λ j. lineText (row (pos (i + 1), (pos (this j .next), (this j .cost .0, (this j .cost .1, (pos (this j .«first_arc»), partOf sheet (here j))))))) ++ drop next sheet));
+          λ j. lineText (row ((pos (k + 1), (pos (that j .next), (that j .cost .0, that j .cost .1))), (pos (that j .«first_arc»), partOf sheet (there j)))))
+          (told .text ∙ (λ j. lineText (row ((pos (i + 1), (pos (this j .next), (this j .cost .0, this j .cost .1))), (pos (this j .«first_arc»), partOf sheet (here j)))) ++ drop next sheet));
     }

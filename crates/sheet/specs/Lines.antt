@@ -12,25 +12,29 @@ use Rattle.sheet.specs.declared.lines.FigureLine.{FigureLine}
 use Rattle.sheet.specs.declared.lines.Line.{Line}
 use Rattle.sheet.specs.declared.lines.Line.the-variants as line
 
--- grades, rows, arcs, total, numerator, denominator, fineness, figures
+-- four numbers in a row
+abbrev pub FourOf : Type 0
+FourOf = ℤ × (ℤ × (ℤ × ℤ))
+
+-- grades, rows, arcs, total; numerator, denominator, fineness, figures
 abbrev pub HeaderOf : Type 0
-HeaderOf = ℤ × (ℤ × (ℤ × (ℤ × (ℤ × (ℤ × (ℤ × ℤ))))))
+HeaderOf = FourOf × FourOf
 
 -- number, first row, label
 abbrev pub GradeOf : Type 0
 GradeOf = ℤ × (ℤ × List ℕ)
 
--- number, next, first part, second part, first arc, label
+-- number, next, first part, second part; first arc; label
 abbrev pub RowOf : Type 0
-RowOf = ℤ × (ℤ × (ℤ × (ℤ × (ℤ × List ℕ))))
+RowOf = FourOf × (ℤ × List ℕ)
 
 -- number, next, destination, weight
 abbrev pub ArcOf : Type 0
-ArcOf = ℤ × (ℤ × (ℤ × ℤ))
+ArcOf = FourOf
 
--- grade, row, the parts of the floor, the parts of the ceiling
+-- grade; row; the parts of the floor and of the ceiling
 abbrev pub FigureOf : Type 0
-FigureOf = ℤ × (ℤ × (ℤ × (ℤ × (ℤ × ℤ))))
+FigureOf = ℤ × (ℤ × FourOf)
 
 -- what a line says
 pub data Entry : Type 0 where
@@ -45,13 +49,13 @@ pub data Entry : Type 0 where
 abbrev pub blank : ℤ → List ℕ
 blank = numberText 32
 
--- a number with the line's end after it
-abbrev pub last : ℤ → List ℕ
-last = numberText 10
+-- four numbers, and the byte that ends the last of them
+abbrev pub fourText : ℕ → FourOf → List ℕ
+fourText stop = both blank (both blank (both blank (numberText stop)))
 
 -- eight numbers
 abbrev pub headerText : HeaderOf → List ℕ
-headerText = both blank (both blank (both blank (both blank (both blank (both blank (both blank last))))))
+headerText = both (fourText 32) (fourText 10)
 
 -- two numbers and a label
 abbrev pub gradeText : GradeOf → List ℕ
@@ -59,15 +63,15 @@ gradeText = both blank (both blank labelText)
 
 -- five numbers and a label
 abbrev pub rowText : RowOf → List ℕ
-rowText = both blank (both blank (both blank (both blank (both blank labelText))))
+rowText = both (fourText 32) (both blank labelText)
 
 -- four numbers
 abbrev pub arcText : ArcOf → List ℕ
-arcText = both blank (both blank (both blank last))
+arcText = fourText 10
 
 -- six numbers
 abbrev pub figureText : FigureOf → List ℕ
-figureText = both blank (both blank (both blank (both blank (both blank last))))
+figureText = both blank (both blank (fourText 10))
 
 -- the first word and a blank, then the fields: `sheet`, `g`, `r`, `t`, `f`; and `end` alone
 abbrev pub lineText : Entry → List ℕ
@@ -78,9 +82,13 @@ lineText (arc a) = 116 ∷ 32 ∷ arcText a
 lineText (figure f) = 102 ∷ 32 ∷ figureText f
 lineText end = 101 ∷ 110 ∷ 100 ∷ 10 ∷ []
 
--- numbers of at most eleven digits
+-- each number of at most eleven digits
+abbrev pub GoodFour : FourOf → Type 0
+GoodFour = Each Small (Each Small (Each Small Small))
+
+-- each number of at most eleven digits
 abbrev pub GoodHeader : HeaderOf → Type 0
-GoodHeader = Each Small (Each Small (Each Small (Each Small (Each Small (Each Small (Each Small Small))))))
+GoodHeader = Each GoodFour GoodFour
 
 -- the same, and a label of 1 to 24 bytes
 abbrev pub GoodGrade : GradeOf → Type 0
@@ -88,15 +96,15 @@ GoodGrade = Each Small (Each Small Label)
 
 -- the same, and a label of 1 to 24 bytes
 abbrev pub GoodRow : RowOf → Type 0
-GoodRow = Each Small (Each Small (Each Small (Each Small (Each Small Label))))
+GoodRow = Each GoodFour (Each Small Label)
 
--- numbers of at most eleven digits
+-- each number of at most eleven digits
 abbrev pub GoodArc : ArcOf → Type 0
-GoodArc = Each Small (Each Small (Each Small Small))
+GoodArc = GoodFour
 
--- numbers of at most eleven digits
+-- each number of at most eleven digits
 abbrev pub GoodFigure : FigureOf → Type 0
-GoodFigure = Each Small (Each Small (Each Small (Each Small (Each Small Small))))
+GoodFigure = Each Small (Each Small GoodFour)
 
 -- a line of good form
 abbrev pub Good : Entry → Type 0
@@ -107,9 +115,13 @@ Good (arc a) = GoodArc a
 Good (figure f) = GoodFigure f
 Good end = Unit {0}
 
+-- four numbers that the program has together
+abbrev pub fourOf : ℤ × ℤ × ℤ × ℤ → FourOf
+fourOf t = (t .0, (t .1, (t .2, t .3)))
+
 -- what the program's records say
 abbrev pub headerOf : HeaderLine → HeaderOf
-headerOf h = (h .grades, (h .rows, (h .arcs, (h .total, (h .numerator, (h .denominator, (h .fineness, h .figures)))))))
+headerOf h = ((h .grades, (h .rows, (h .arcs, h .total))), (h .numerator, (h .denominator, (h .fineness, h .figures))))
 
 -- what the program's records say
 abbrev pub gradeOf : GradeLine → GradeOf
@@ -117,7 +129,7 @@ gradeOf g = (g .number, (g .«first_row», g .label .now))
 
 -- what the program's records say
 abbrev pub rowOf : RowLine → RowOf
-rowOf r = (r .number, (r .next, (r .«first_part», (r .«second_part», (r .«first_arc», r .label .now)))))
+rowOf r = ((r .number, (r .next, (r .«first_part», r .«second_part»))), (r .«first_arc», r .label .now))
 
 -- what the program's records say
 abbrev pub arcOf : ArcLine → ArcOf

@@ -77,7 +77,7 @@ pub record RowRead (sheet : List ℕ) (at i rows arcs : ℕ) (r : Row) (span : S
   pub inside : SpanIn (length sheet) span
   pub ends : next ≤ length sheet
   pub label : Label (partOf sheet span)
-  pub text : drop at sheet ≡ lineText (row (pos (i + 1), (pos (r .next), (r .cost .0, (r .cost .1, (pos (r .«first_arc»), partOf sheet span)))))) ++ drop next sheet
+  pub text : drop at sheet ≡ lineText (row ((pos (i + 1), (pos (r .next), (r .cost .0, r .cost .1))), (pos (r .«first_arc»), partOf sheet span))) ++ drop next sheet
 
 -- the n lines from the place at on say that of the rows
 pub record RowsRead (sheet : List ℕ) (at n rows arcs : ℕ) (rs : List Row) (spans : List Span) (next : ℕ) : Type 0 where

@@ -36,7 +36,7 @@ figuresOf grades None = 0
 
 -- the first line, from its eight numbers
 abbrev pub countsEntry : ℕ → ℕ → ℕ → ℕ → ℕ → ℕ → ℕ → ℕ → Entry
-countsEntry grades rows arcs total numerator denominator fineness figures = header (pos grades, (pos rows, (pos arcs, (pos total, (pos numerator, (pos denominator, (pos fineness, pos figures)))))))
+countsEntry grades rows arcs total numerator denominator fineness figures = header ((pos grades, (pos rows, (pos arcs, pos total))), (pos numerator, (pos denominator, (pos fineness, pos figures))))
 
 -- the first line of a table, with the number of figure lines that follow
 abbrev pub headerEntry : Table → ℕ → Entry
@@ -50,7 +50,7 @@ gradeEntry firsts label i = grade (pos (i + 1), (pos (getD firsts i 0), label))
 abbrev pub rowEntry : List Row → List ℕ → ℕ → Entry
 rowEntry rs label i =
     let r = getD rs i row0 in
-    row (pos (i + 1), (pos (r .next), (r .cost .0, (r .cost .1, (pos (r .«first_arc»), label)))))
+    row ((pos (i + 1), (pos (r .next), (r .cost .0, r .cost .1))), (pos (r .«first_arc»), label))
 
 -- the line of the arc i + 1
 abbrev pub arcEntry : List Arc → ℕ → Entry

@@ -4,8 +4,9 @@ ghost use mathlib.Core.Path.{_≡_};
 ghost use Prim.Native.Nat.{_+_, _≤_, _<_};
 ghost use lib.ListN.{length, drop};
 ghost use Rattle.std.specs.Results.{Cases};
+ghost use Rattle.text.specs.Fields.{byteOf};
 ghost use Rattle.text.specs.Reading.{Reads, seen};
-ghost use Rattle.sheet.specs.Lines.{headerText, gradeText, rowText, arcText, figureText, lineText, GoodHeader, GoodGrade, GoodRow, GoodArc, GoodFigure, Good, headerOf, gradeOf, rowOf, arcOf, figureOf, entryOf};
+ghost use Rattle.sheet.specs.Lines.{fourText, headerText, gradeText, rowText, arcText, figureText, lineText, GoodFour, GoodHeader, GoodGrade, GoodRow, GoodArc, GoodFigure, Good, fourOf, headerOf, gradeOf, rowOf, arcOf, figureOf, entryOf, PrefixFree};
 ghost use Rattle.sheet.specs.Places.{seenAt, labelOf};
 use crate::fault::TextFault;
 use crate::lines::ArcLine;
@@ -16,17 +17,22 @@ use crate::lines::Line;
 use crate::lines::RowLine;
 use text::End;
 
+/// Four numbers, the last of them before `end`.
+fn read_four(bytes: &[u8], end: End) -> Option<((i64, i64, i64, i64), &[u8])>
+    ensures { λ r. ⌜ Reads GoodFour (fourText (byteOf end)) (now (bytes .entry)) (seen fourOf r) ⌝ }
+{
+    let (first, rest) = text::number(bytes, End::Blank)?;
+    let (second, rest) = text::number(rest, End::Blank)?;
+    let (third, rest) = text::number(rest, End::Blank)?;
+    let (fourth, rest) = text::number(rest, end)?;
+    Some(((first, second, third, fourth), rest))
+}
+
 fn read_header(bytes: &[u8]) -> Option<(HeaderLine, &[u8])>
     ensures { λ r. ⌜ Reads GoodHeader headerText (now (bytes .entry)) (seen headerOf r) ⌝ }
 {
-    let (grades, rest) = text::number(bytes, End::Blank)?;
-    let (rows, rest) = text::number(rest, End::Blank)?;
-    let (arcs, rest) = text::number(rest, End::Blank)?;
-    let (total, rest) = text::number(rest, End::Blank)?;
-    let (numerator, rest) = text::number(rest, End::Blank)?;
-    let (denominator, rest) = text::number(rest, End::Blank)?;
-    let (fineness, rest) = text::number(rest, End::Blank)?;
-    let (figures, rest) = text::number(rest, End::Line)?;
+    let ((grades, rows, arcs, total), rest) = read_four(bytes, End::Blank)?;
+    let ((numerator, denominator, fineness, figures), rest) = read_four(rest, End::Line)?;
     let line = HeaderLine {
         grades,
         rows,
@@ -59,10 +65,7 @@ fn read_grade(bytes: &[u8]) -> Option<(GradeLine<'_>, &[u8])>
 fn read_row(bytes: &[u8]) -> Option<(RowLine<'_>, &[u8])>
     ensures { λ r. ⌜ Reads GoodRow rowText (now (bytes .entry)) (seen rowOf r) ⌝ }
 {
-    let (number, rest) = text::number(bytes, End::Blank)?;
-    let (next, rest) = text::number(rest, End::Blank)?;
-    let (first_part, rest) = text::number(rest, End::Blank)?;
-    let (second_part, rest) = text::number(rest, End::Blank)?;
+    let ((number, next, first_part, second_part), rest) = read_four(bytes, End::Blank)?;
     let (first_arc, rest) = text::number(rest, End::Blank)?;
     let (label, rest) = text::label(rest)?;
     Some((
@@ -81,10 +84,7 @@ fn read_row(bytes: &[u8]) -> Option<(RowLine<'_>, &[u8])>
 fn read_arc(bytes: &[u8]) -> Option<(ArcLine, &[u8])>
     ensures { λ r. ⌜ Reads GoodArc arcText (now (bytes .entry)) (seen arcOf r) ⌝ }
 {
-    let (number, rest) = text::number(bytes, End::Blank)?;
-    let (next, rest) = text::number(rest, End::Blank)?;
-    let (destination, rest) = text::number(rest, End::Blank)?;
-    let (weight, rest) = text::number(rest, End::Line)?;
+    let ((number, next, destination, weight), rest) = read_four(bytes, End::Line)?;
     Some((
         ArcLine {
             number,
@@ -101,10 +101,10 @@ fn read_figure(bytes: &[u8]) -> Option<(FigureLine, &[u8])>
 {
     let (grade, rest) = text::number(bytes, End::Blank)?;
     let (row, rest) = text::number(rest, End::Blank)?;
-    let (floor_first, rest) = text::number(rest, End::Blank)?;
-    let (floor_second, rest) = text::number(rest, End::Blank)?;
-    let (ceiling_first, rest) = text::number(rest, End::Blank)?;
-    let (ceiling_second, rest) = text::number(rest, End::Line)?;
+    let ((floor_first, floor_second, ceiling_first, ceiling_second), rest) = read_four(
+        rest,
+        End::Line,
+    )?;
     let line = FigureLine {
         grade,
         row,
@@ -116,9 +116,10 @@ fn read_figure(bytes: &[u8]) -> Option<(FigureLine, &[u8])>
     Some((line, rest))
 }
 
-/// The line at the front, and what follows it.
+/// The line at the front, and what follows it. No bytes begin with two lines.
 pub fn read_line(bytes: &[u8]) -> Option<(Line<'_>, &[u8])>
-    ensures { λ r. ⌜ Reads Good lineText (now (bytes .entry)) (seen entryOf r) ⌝ }
+    ensures reads { λ r. ⌜ Reads Good lineText (now (bytes .entry)) (seen entryOf r) ⌝ }
+    ensures alone { λ _. ⌜ PrefixFree ⌝ }
 {
     match bytes {
         [b's', b'h', b'e', b'e', b't', b' ', rest @ ..] => {

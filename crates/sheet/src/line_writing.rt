@@ -1,7 +1,8 @@
 //! Writing one line.
 
+ghost use Rattle.text.specs.Fields.{byteOf};
 ghost use Rattle.text.specs.Writing.{Writes};
-ghost use Rattle.sheet.specs.Lines.{headerText, gradeText, rowText, arcText, figureText, lineText, headerOf, gradeOf, rowOf, arcOf, figureOf, entryOf};
+ghost use Rattle.sheet.specs.Lines.{fourText, headerText, gradeText, rowText, arcText, figureText, lineText, fourOf, headerOf, gradeOf, rowOf, arcOf, figureOf, entryOf};
 use crate::lines::ArcLine;
 use crate::lines::FigureLine;
 use crate::lines::GradeLine;
@@ -10,17 +11,36 @@ use crate::lines::Line;
 use crate::lines::RowLine;
 use text::End;
 
+/// Writes four numbers, the last of them before `end`.
+fn write_four(out: &mut [u8], at: usize, numbers: (i64, i64, i64, i64), end: End) -> Option<usize>
+    ensures { λ r. ⌜ Writes (now (out .entry)) at (fourText (byteOf end) (fourOf numbers)) r (now (out .exit)) ⌝ }
+{
+    let at = text::write_field(out, at, numbers.0, End::Blank)?;
+    let at = text::write_field(out, at, numbers.1, End::Blank)?;
+    let at = text::write_field(out, at, numbers.2, End::Blank)?;
+    text::write_field(out, at, numbers.3, end)
+}
+
 fn write_header(out: &mut [u8], at: usize, line: &HeaderLine) -> Option<usize>
     ensures { λ r. ⌜ Writes (now (out .entry)) at (headerText (headerOf (now (line .entry)))) r (now (out .exit)) ⌝ }
 {
-    let at = text::write_field(out, at, line.grades, End::Blank)?;
-    let at = text::write_field(out, at, line.rows, End::Blank)?;
-    let at = text::write_field(out, at, line.arcs, End::Blank)?;
-    let at = text::write_field(out, at, line.total, End::Blank)?;
-    let at = text::write_field(out, at, line.numerator, End::Blank)?;
-    let at = text::write_field(out, at, line.denominator, End::Blank)?;
-    let at = text::write_field(out, at, line.fineness, End::Blank)?;
-    text::write_field(out, at, line.figures, End::Line)
+    let at = write_four(
+        out,
+        at,
+        (line.grades, line.rows, line.arcs, line.total),
+        End::Blank,
+    )?;
+    write_four(
+        out,
+        at,
+        (
+            line.numerator,
+            line.denominator,
+            line.fineness,
+            line.figures,
+        ),
+        End::Line,
+    )
 }
 
 fn write_grade(out: &mut [u8], at: usize, line: &GradeLine<'_>) -> Option<usize>
@@ -34,10 +54,12 @@ fn write_grade(out: &mut [u8], at: usize, line: &GradeLine<'_>) -> Option<usize>
 fn write_row(out: &mut [u8], at: usize, line: &RowLine<'_>) -> Option<usize>
     ensures { λ r. ⌜ Writes (now (out .entry)) at (rowText (rowOf (now (line .entry)))) r (now (out .exit)) ⌝ }
 {
-    let at = text::write_field(out, at, line.number, End::Blank)?;
-    let at = text::write_field(out, at, line.next, End::Blank)?;
-    let at = text::write_field(out, at, line.first_part, End::Blank)?;
-    let at = text::write_field(out, at, line.second_part, End::Blank)?;
+    let at = write_four(
+        out,
+        at,
+        (line.number, line.next, line.first_part, line.second_part),
+        End::Blank,
+    )?;
     let at = text::write_field(out, at, line.first_arc, End::Blank)?;
     text::write_label(out, at, line.label)
 }
@@ -45,10 +67,12 @@ fn write_row(out: &mut [u8], at: usize, line: &RowLine<'_>) -> Option<usize>
 fn write_arc(out: &mut [u8], at: usize, line: &ArcLine) -> Option<usize>
     ensures { λ r. ⌜ Writes (now (out .entry)) at (arcText (arcOf (now (line .entry)))) r (now (out .exit)) ⌝ }
 {
-    let at = text::write_field(out, at, line.number, End::Blank)?;
-    let at = text::write_field(out, at, line.next, End::Blank)?;
-    let at = text::write_field(out, at, line.destination, End::Blank)?;
-    text::write_field(out, at, line.weight, End::Line)
+    write_four(
+        out,
+        at,
+        (line.number, line.next, line.destination, line.weight),
+        End::Line,
+    )
 }
 
 fn write_figure(out: &mut [u8], at: usize, line: &FigureLine) -> Option<usize>
@@ -56,10 +80,13 @@ fn write_figure(out: &mut [u8], at: usize, line: &FigureLine) -> Option<usize>
 {
     let at = text::write_field(out, at, line.grade, End::Blank)?;
     let at = text::write_field(out, at, line.row, End::Blank)?;
-    let at = text::write_field(out, at, line.floor_first, End::Blank)?;
-    let at = text::write_field(out, at, line.floor_second, End::Blank)?;
-    let at = text::write_field(out, at, line.ceiling_first, End::Blank)?;
-    text::write_field(out, at, line.ceiling_second, End::Line)
+    let bounds = (
+        line.floor_first,
+        line.floor_second,
+        line.ceiling_first,
+        line.ceiling_second,
+    );
+    write_four(out, at, bounds, End::Line)
 }
 
 /// Writes a line from the place `at` on, and returns the place after it, or `None` where it has no room.

@@ -1,7 +1,7 @@
 -- One write after another.
-use mathlib.Core.Path.{_≡_, refl, sym, ap, subst, _∙_}
+use mathlib.Core.Path.{_≡_, refl, sym, ap, _∙_}
 use mathlib.Core.List.{List, [], _∷_, _++_, append-assoc}
-use Prim.Native.Nat.{ℕ, _+_, _-_, _/_, _%_, _^_, _≤_, _<_}
+use Prim.Native.Nat.{ℕ, _+_, _/_, _%_, _^_, _≤_, _<_}
 use lib.IntN.{ℤ, pos, negsuc, natAbs}
 use lib.Signed.{ltZ}
 use mathlib.Core.Bool.{true}
@@ -13,7 +13,8 @@ use lib.ListN.{length, getD, take, drop, set}
 use Rattle.std.specs.declared.option.Option.{Option}
 use Rattle.std.specs.declared.option.Option.the-variants.{Some, None}
 use Rattle.std.proofs.shelf.Lists.{length-append, length-push, length-take-le, length-drop, take-append-drop, take-at, take-take, drop-at, drop-drop, drop-more, set-at}
-use Rattle.text.specs.Writing.{put, Writes}
+use Rattle.text.specs.Fields.{numberText}
+use Rattle.text.specs.Writing.{put, Writes, ReadsBack}
 
 module _ (xs : List ℕ) (at : ℕ) (ys : List ℕ) (room : at + length ys ≤ length xs) where
   -- what stands up to the place after ys
@@ -29,12 +30,14 @@ module _ (xs : List ℕ) (at : ℕ) (ys : List ℕ) (room : at + length ys ≤ l
   pub take-put : take at (put xs at ys) ≡ take at xs
   take-put = take-at (take at xs) (ys ++ drop (at + length ys) xs) at (length-take-le at xs (omega arith))
 
+  pub drop-put : drop (at + length ys) (put xs at ys) ≡ drop (at + length ys) xs
+  drop-put = ap (drop (at + length ys)) put-cut ∙ drop-at (take at xs ++ ys) (drop (at + length ys) xs) (at + length ys) front-length
+
   pub put-put : (zs : List ℕ) → put (put xs at ys) (at + length ys) zs ≡ put xs at (ys ++ zs)
   put-put zs =
       let n = at + length ys in
       let front : take n (put xs at ys) ≡ take at xs ++ ys = ap (take n) put-cut ∙ take-at (take at xs ++ ys) (drop n xs) n front-length in
-      let back : drop n (put xs at ys) ≡ drop n xs = ap (drop n) put-cut ∙ drop-at (take at xs ++ ys) (drop n xs) n front-length in
-      let rest : drop (n + length zs) (put xs at ys) ≡ drop (n + length zs) xs = sym (drop-drop (length zs) n (put xs at ys)) ∙ ap (drop (length zs)) back ∙ drop-drop (length zs) n xs in
+      let rest : drop (n + length zs) (put xs at ys) ≡ drop (n + length zs) xs = sym (drop-drop (length zs) n (put xs at ys)) ∙ ap (drop (length zs)) drop-put ∙ drop-drop (length zs) n xs in
       let long : n + length zs ≡ at + length (ys ++ zs) = omega (arith, length-append ys zs) in
       (λ i. front i ++ (zs ++ rest i)) ∙ append-assoc (take at xs) ys (zs ++ drop (n + length zs) xs) ∙ ap (λ l. take at xs ++ l) (sym (append-assoc ys zs (drop (n + length zs) xs)) ∙ ap (λ k. (ys ++ zs) ++ drop k xs) long)
 
@@ -96,3 +99,19 @@ step-ends xs at n next ys s room =
 pub negative : (z : ℤ) → ltZ z (pos 0) ≡ true → signed z ≡ 45 ∷ decimal (natAbs z)
 negative (pos n) h = absurd (omega (arith, ltb-true n 0 h))
 negative (negsuc n) h = refl
+
+-- what was written is read back
+pub reads-back : (xs : List ℕ) (at e : ℕ) (z : ℤ) (r : Option ℕ) (zs : List ℕ) → Writes xs at (numberText e z) r zs → ReadsBack xs at e z r zs
+reads-back xs at e z None zs w = tt
+reads-back xs at e z (Some j) zs w =
+    let ys = numberText e z in
+    let room : at + length ys ≤ length xs = omega arith in
+    let after : drop j zs ≡ drop j xs = (λ i. drop (w .0 i) (w .2 i)) ∙ drop-put xs at ys room ∙ ap (λ k. drop k xs) (sym (w .0)) in
+    let here : drop at zs ≡ ys ++ drop j zs =
+    ap (drop at) (w .2) ∙ drop-at (take at xs) (ys ++ drop (at + length ys) xs) at (length-take-le at xs (omega arith)) ∙ ap (λ k. ys ++ drop k xs) (sym (w .0)) ∙ ap (λ l. ys ++ l) (sym after) in
+    record {
+      before = ap (take at) (w .2) ∙ take-put xs at ys room;
+      here = here;
+      after = after;
+      read = λ o small reads. reads .must z (drop j zs) small here;
+    }

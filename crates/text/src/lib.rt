@@ -16,3 +16,6 @@ pub use write::write_bytes;
 pub use write::write_field;
 pub use write::write_label;
 pub use write::write_number;
+
+#[cfg(test)]
+mod tests;

@@ -1,16 +1,24 @@
 //! Writing: into lent bytes from a place on. The answer is the place after, or `None` where there is no room.
 
 ghost use mathlib.Core.Path.{_≡_};
+ghost use mathlib.Core.Bool.{true, false};
 ghost use mathlib.Core.List.{[], _∷_};
-ghost use Prim.Native.Nat.{_+_, _≤_};
+ghost use Prim.Native.Nat.{_+_, _≤_, _<_};
 ghost use lib.ListN.{length};
 ghost use Rattle.std.specs.Written.{decimal, signed};
 ghost use Rattle.text.specs.Fields.{byteOf, numberText, labelText};
-ghost use Rattle.text.specs.Writing.{put, Writes};
+ghost use Rattle.text.specs.Writing.{put, Writes, ReadsBack};
 use crate::end::End;
 
 /// The base of the digits.
 const TEN: u64 = 10;
+
+/// Whether `n` bytes have room in `all` from the place `at` on.
+fn has_room(all: usize, at: usize, n: usize) -> bool
+    ensures { λ r. ⌜ elim r [ true ↦ at + n ≤ all | false ↦ all < at + n ] ⌝ }
+{
+    at <= all && n <= all - at
+}
 
 /// How many digits `n` has.
 fn width(n: u64) -> usize
@@ -54,8 +62,7 @@ fn write_byte(out: &mut [u8], at: usize, b: u8) -> Option<usize>
 fn write_natural(out: &mut [u8], at: usize, n: u64) -> Option<usize>
     ensures { λ r. ⌜ Writes (now (out .entry)) at (decimal n) r (now (out .exit)) ⌝ }
 {
-    let w = width(n);
-    if at > out.len() || w > out.len() - at {
+    if !has_room(out.len(), at, width(n)) {
         return None;
     }
     Some(put_natural(out, at, n))
@@ -73,9 +80,10 @@ pub fn write_number(out: &mut [u8], at: usize, z: i64) -> Option<usize>
     }
 }
 
-/// Writes a number and the byte that ends its field.
+/// Writes a number and the byte that ends its field. At that place it then reads back.
 pub fn write_field(out: &mut [u8], at: usize, z: i64, end: End) -> Option<usize>
-    ensures { λ r. ⌜ Writes (now (out .entry)) at (numberText (byteOf end) z) r (now (out .exit)) ⌝ }
+    ensures back { λ r. ⌜ ReadsBack (now (out .entry)) at (byteOf end) z r (now (out .exit)) ⌝ }
+    ensures text { λ r. ⌜ Writes (now (out .entry)) at (numberText (byteOf end) z) r (now (out .exit)) ⌝ }
 {
     let next = write_number(out, at, z)?;
     write_byte(out, next, end.byte())
@@ -86,7 +94,7 @@ pub fn write_bytes(out: &mut [u8], at: usize, bytes: &[u8]) -> Option<usize>
     ensures { λ r. ⌜ Writes (now (out .entry)) at (now (bytes .entry)) r (now (out .exit)) ⌝ }
 {
     let n = bytes.len();
-    if at > out.len() || n > out.len() - at {
+    if !has_room(out.len(), at, n) {
         return None;
     }
     out[at..at + n].copy_from_slice(bytes);

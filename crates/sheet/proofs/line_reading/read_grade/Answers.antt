@@ -1,4 +1,4 @@
--- Each way out by one field more: what was read so far, and then the field that was not there, or the whole line.
+-- Each way out by one field more: what was read so far, and then the field that was not there, or the whole.
 use borrow.Author.Needs.{needs}
 use mir.Syntax.{w64}
 use mir.Val.{SFits}
@@ -7,7 +7,7 @@ use Rattle.std.proofs.shelf.Signed.{toZ-ofZ}
 use Rattle.text.specs.Reading.{both, Each}
 use Rattle.text.specs.Fields.{Small, Label, labelText}
 use Rattle.text.proofs.Reading.{first-none, first-then}
-use Rattle.sheet.specs.Lines.{blank, last}
+use Rattle.sheet.specs.Lines.{blank}
 use Rattle.sheet.proofs.line_reading.read_grade.Needs as need
 
 pub returns-in-Break-number : need.returns-in-Break-number

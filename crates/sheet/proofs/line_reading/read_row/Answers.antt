@@ -1,4 +1,4 @@
--- Each way out by one field more: what was read so far, and then the field that was not there, or the whole line.
+-- Each way out by one field more: what was read so far, and then the field that was not there, or the whole.
 use borrow.Author.Needs.{needs}
 use mir.Syntax.{w64}
 use mir.Val.{SFits}
@@ -7,65 +7,35 @@ use Rattle.std.proofs.shelf.Signed.{toZ-ofZ}
 use Rattle.text.specs.Reading.{both, Each}
 use Rattle.text.specs.Fields.{Small, Label, labelText}
 use Rattle.text.proofs.Reading.{first-none, first-then}
-use Rattle.sheet.specs.Lines.{blank, last}
+use Rattle.sheet.specs.Lines.{blank}
 use Rattle.sheet.proofs.line_reading.read_row.Needs as need
 
 pub returns-in-Break-number : need.returns-in-Break-number
 returns-in-Break-number c =
     rw (c .from-residual .ensures)
-    (first-none (Each Small (Each Small (Each Small (Each Small Label)))) (both blank (both blank (both blank (both blank labelText)))) (c .in-Break-number .ensures tt))
-
-pub returns-in-Break-next : need.returns-in-Break-next
-returns-in-Break-next c =
-    rw (c .from-residual-in-Break-next .ensures)
-    (first-then (c .in-Continue-number .number) (c .in-Continue-number .rest .now) (c .in-Continue-number .ensures tt) None
-    (first-none (Each Small (Each Small (Each Small Label))) (both blank (both blank (both blank labelText))) (c .in-Break-next .ensures tt)))
-
-pub returns-in-Break-first-part : need.returns-in-Break-first-part
-returns-in-Break-first-part c =
-    rw (c .from-residual-in-Break-first-part .ensures)
-    (first-then (c .in-Continue-number .number) (c .in-Continue-number .rest .now) (c .in-Continue-number .ensures tt) None
-    (first-then (c .in-Continue-next .next) (c .in-Continue-next .rest .now) (c .in-Continue-next .ensures tt) None
-    (first-none (Each Small (Each Small Label)) (both blank (both blank labelText)) (c .in-Break-first-part .ensures tt))))
-
-pub returns-in-Break-second-part : need.returns-in-Break-second-part
-returns-in-Break-second-part c =
-    rw (c .from-residual-in-Break-second-part .ensures)
-    (first-then (c .in-Continue-number .number) (c .in-Continue-number .rest .now) (c .in-Continue-number .ensures tt) None
-    (first-then (c .in-Continue-next .next) (c .in-Continue-next .rest .now) (c .in-Continue-next .ensures tt) None
-    (first-then (c .in-Continue-first-part .first-part) (c .in-Continue-first-part .rest .now) (c .in-Continue-first-part .ensures tt) None
-    (first-none (Each Small Label) (both blank labelText) (c .in-Break-second-part .ensures tt)))))
+    (first-none (Each Small Label) (both blank labelText) (c .in-Break-number .ensures tt))
 
 pub returns-in-Break-first-arc : need.returns-in-Break-first-arc
 returns-in-Break-first-arc c =
     rw (c .from-residual-in-Break-first-arc .ensures)
-    (first-then (c .in-Continue-number .number) (c .in-Continue-number .rest .now) (c .in-Continue-number .ensures tt) None
-    (first-then (c .in-Continue-next .next) (c .in-Continue-next .rest .now) (c .in-Continue-next .ensures tt) None
-    (first-then (c .in-Continue-first-part .first-part) (c .in-Continue-first-part .rest .now) (c .in-Continue-first-part .ensures tt) None
-    (first-then (c .in-Continue-second-part .second-part) (c .in-Continue-second-part .rest .now) (c .in-Continue-second-part .ensures tt) None
-    (first-none Label labelText (c .in-Break-first-arc .ensures tt))))))
+    (first-then (c .in-Continue-number .number, (c .in-Continue-number .next, (c .in-Continue-number .first-part, c .in-Continue-number .second-part))) (c .in-Continue-number .rest .now) (c .in-Continue-number .ensures tt) None
+    (first-none Label labelText (c .in-Break-first-arc .ensures tt)))
 
 pub returns-in-Break-label : need.returns-in-Break-label
 returns-in-Break-label c =
     rw (c .from-residual-in-Break-label .ensures)
-    (first-then (c .in-Continue-number .number) (c .in-Continue-number .rest .now) (c .in-Continue-number .ensures tt) None
-    (first-then (c .in-Continue-next .next) (c .in-Continue-next .rest .now) (c .in-Continue-next .ensures tt) None
-    (first-then (c .in-Continue-first-part .first-part) (c .in-Continue-first-part .rest .now) (c .in-Continue-first-part .ensures tt) None
-    (first-then (c .in-Continue-second-part .second-part) (c .in-Continue-second-part .rest .now) (c .in-Continue-second-part .ensures tt) None
+    (first-then (c .in-Continue-number .number, (c .in-Continue-number .next, (c .in-Continue-number .first-part, c .in-Continue-number .second-part))) (c .in-Continue-number .rest .now) (c .in-Continue-number .ensures tt) None
     (first-then (c .in-Continue-first-arc .first-arc) (c .in-Continue-first-arc .rest .now) (c .in-Continue-first-arc .ensures tt) None
-    (c .in-Break-label .ensures tt))))))
+    (c .in-Break-label .ensures tt)))
 
 pub returns : need.returns
 returns c =
     let f0 : SFits w64 (c .in-Continue-number .number) = search needs in
-    let f1 : SFits w64 (c .in-Continue-next .next) = search needs in
-    let f2 : SFits w64 (c .in-Continue-first-part .first-part) = search needs in
-    let f3 : SFits w64 (c .in-Continue-second-part .second-part) = search needs in
+    let f1 : SFits w64 (c .in-Continue-number .next) = search needs in
+    let f2 : SFits w64 (c .in-Continue-number .first-part) = search needs in
+    let f3 : SFits w64 (c .in-Continue-number .second-part) = search needs in
     let f4 : SFits w64 (c .in-Continue-first-arc .first-arc) = search needs in
     simp toZ-ofZ
-    (first-then (c .in-Continue-number .number) (c .in-Continue-number .rest .now) (c .in-Continue-number .ensures tt) (Some (((c .in-Continue-next .next), ((c .in-Continue-first-part .first-part), ((c .in-Continue-second-part .second-part), ((c .in-Continue-first-arc .first-arc), (c .in-Continue-label .label .now))))), (c .in-Continue-label .rest .now)))
-    (first-then (c .in-Continue-next .next) (c .in-Continue-next .rest .now) (c .in-Continue-next .ensures tt) (Some (((c .in-Continue-first-part .first-part), ((c .in-Continue-second-part .second-part), ((c .in-Continue-first-arc .first-arc), (c .in-Continue-label .label .now)))), (c .in-Continue-label .rest .now)))
-    (first-then (c .in-Continue-first-part .first-part) (c .in-Continue-first-part .rest .now) (c .in-Continue-first-part .ensures tt) (Some (((c .in-Continue-second-part .second-part), ((c .in-Continue-first-arc .first-arc), (c .in-Continue-label .label .now))), (c .in-Continue-label .rest .now)))
-    (first-then (c .in-Continue-second-part .second-part) (c .in-Continue-second-part .rest .now) (c .in-Continue-second-part .ensures tt) (Some (((c .in-Continue-first-arc .first-arc), (c .in-Continue-label .label .now)), (c .in-Continue-label .rest .now)))
+    (first-then (c .in-Continue-number .number, (c .in-Continue-number .next, (c .in-Continue-number .first-part, c .in-Continue-number .second-part))) (c .in-Continue-number .rest .now) (c .in-Continue-number .ensures tt) (Some (((c .in-Continue-first-arc .first-arc), (c .in-Continue-label .label .now)), (c .in-Continue-label .rest .now)))
     (first-then (c .in-Continue-first-arc .first-arc) (c .in-Continue-first-arc .rest .now) (c .in-Continue-first-arc .ensures tt) (Some ((c .in-Continue-label .label .now), (c .in-Continue-label .rest .now)))
-    (c .in-Continue-label .ensures tt))))))
+    (c .in-Continue-label .ensures tt)))

@@ -1,14 +1,16 @@
-use mathlib.Core.Path.{_≡_, refl, sym, ap, _∙_}
-use Prim.Native.Nat.{ℕ, _+_, _-_, _≤_, _<_}
+use mathlib.Core.Path.{_≡_, sym, ap, _∙_}
+use mathlib.Core.Logic.{⊎-elim}
+use Prim.Native.Nat.{_+_, _-_}
 use native.Mathlib.Omega.{arith}
-use lib.ListN.{length, getD, take, drop}
+use lib.ListN.{length, take, drop}
 use Rattle.std.proofs.shelf.Lists.{take-rest}
 use Rattle.text.proofs.Reading.{refused}
 use Rattle.text.proofs.Labels.{label-met, label-found}
 use Rattle.text.proofs.read.label.Needs as need
 
-pub returns-then-n-eq0 : need.returns-then-n-eq0
-returns-then-n-eq0 c = refused (λ ls rest s e. let h = label-met (c .run-n .ensures) ls rest s e in omega arith)
+pub returns-then-not-label-fits : need.returns-then-not-label-fits
+returns-then-not-label-fits c =
+    refused (λ ls rest s e. let h = label-met (c .run-n .ensures) ls rest s e in ⊎-elim (λ none. omega arith) (λ more. omega arith) (c .if-not-label-fits .ensures tt))
 
 pub returns-then-n-bytes : need.returns-then-n-bytes
 returns-then-n-bytes c = refused (λ ls rest s e. let h = label-met (c .run-n .ensures) ls rest s e in omega arith)

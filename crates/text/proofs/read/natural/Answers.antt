@@ -1,8 +1,8 @@
 use mathlib.Core.Path.{_≡_, sym, ap, subst, _∙_}
 use mathlib.Core.Logic.{⊎-elim}
-use Prim.Native.Nat.{ℕ, _+_, _-_, _≤_, _<_}
+use Prim.Native.Nat.{_+_, _-_, _≤_}
 use native.Mathlib.Omega.{arith}
-use lib.ListN.{length, getD, take, drop}
+use lib.ListN.{length, take, drop}
 use Rattle.std.specs.Reads.{value, Digits}
 use Rattle.std.proofs.shelf.Lists.{length-take-le, take-rest}
 use Rattle.text.proofs.Reading.{refused}
@@ -10,8 +10,9 @@ use Rattle.text.proofs.Numbers.{ends, met, found, run-numeral}
 use Rattle.text.proofs.read.natural.Needs as need
 use Rattle.text.proofs.read.natural.Needs.{else-n-gt1·by·then-n-gt1·else-bytes-eq48, else-n-gt1·by·else-n-gt1}
 
-pub returns-then-n-eq0 : need.returns-then-n-eq0
-returns-then-n-eq0 c = refused (λ m rest s e. let h = met (c .run-n .ensures) (ends (c .args .end)) m rest s e in omega arith)
+pub returns-then-not-digits-fit : need.returns-then-not-digits-fit
+returns-then-not-digits-fit c =
+    refused (λ m rest s e. let h = met (c .run-n .ensures) (ends (c .args .end)) m rest s e in ⊎-elim (λ none. omega arith) (λ more. omega arith) (c .if-not-digits-fit .ensures tt))
 
 pub returns-then-bytes-eq48 : need.returns-then-bytes-eq48
 returns-then-bytes-eq48 c = refused (λ m rest s e. let h = met (c .run-n .ensures) (ends (c .args .end)) m rest s e in h .front (omega arith) (omega arith))

@@ -1,4 +1,4 @@
-use mathlib.Core.List.{List, [], _∷_}
+use mathlib.Core.List.{[], _∷_}
 use mathlib.Core.Path.{subst}
 use Rattle.text.specs.Writing.{Writes}
 use Rattle.text.proofs.Writing.{writes-then, writes-none}
