@@ -4,3 +4,9 @@ pub mod Keeps
 pub mod Series
 pub mod Parts
 pub mod GradeSteps
+pub mod RowSteps
+pub mod ArcSteps
+pub mod FigureSteps
+pub mod HeaderSteps
+pub mod Lengths
+pub mod Copied

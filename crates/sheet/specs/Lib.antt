@@ -4,3 +4,4 @@ pub mod Spans
 pub mod Render
 pub mod Read
 pub mod Whole
+pub mod Written

@@ -1,7 +1,7 @@
 -- The text of a whole sheet: what is written, and what is read. Assumes nothing.
 use mathlib.Core.List.{List, [], _++_}
 use Prim.Native.Nat.{ℕ, zero, suc, _+_, _-_}
-use lib.IntN.{pos}
+use lib.IntN.{ℤ, pos}
 use lib.ListN.{getD, take, drop}
 use Rattle.std.specs.declared.option.Option.{Option}
 use Rattle.std.specs.declared.option.Option.the-variants.{Some, None}
@@ -33,9 +33,13 @@ abbrev pub figuresOf : ℕ → Option Figures → ℕ
 figuresOf grades (Some f) = grades
 figuresOf grades None = 0
 
--- the first line, with the number of figure lines that follow
+-- the first line, from its eight numbers
+abbrev pub countsEntry : ℕ → ℕ → ℕ → ℕ → ℕ → ℕ → ℕ → ℕ → Entry
+countsEntry grades rows arcs total numerator denominator fineness figures = header ((pos grades, (pos rows, (pos arcs, pos total))), (pos numerator, (pos denominator, (pos fineness, pos figures))))
+
+-- the first line of a table, with the number of figure lines that follow
 abbrev pub headerEntry : Table → ℕ → Entry
-headerEntry t figures = header ((pos (t .grades), (pos (t .rows), (pos (t .arcs), pos (t .total)))), (pos (t .numerator), (pos (t .denominator), (pos (t .fineness), pos figures))))
+headerEntry t = countsEntry (t .grades) (t .rows) (t .arcs) (t .total) (t .numerator) (t .denominator) (t .fineness)
 
 -- the line of the grade i + 1, from the first rows and its label
 abbrev pub gradeEntry : List ℕ → List ℕ → ℕ → Entry
@@ -53,12 +57,12 @@ arcEntry xs i =
     let a = getD xs i arc0 in
     arc (pos (i + 1), (pos (a .next), (pos (a .destination), pos (a .weight))))
 
--- the figure line of the grade i + 1
-abbrev pub figureEntry : Figures → ℕ → Entry
-figureEntry f i =
-    let low = getD (f .floor .at) i (pos 0, pos 0) in
-    let high = getD (f .ceiling .at) i (pos 0, pos 0) in
-    figure (pos (i + 1), (pos (getD (f .row) i 0), (low .0, (low .1, (high .0, high .1)))))
+-- the figure line of the grade i + 1, from the plan rows, the floors and the ceilings
+abbrev pub figureEntry : List ℕ → List (ℤ × ℤ) → List (ℤ × ℤ) → ℕ → Entry
+figureEntry plan floors ceilings i =
+    let low = getD floors i (pos 0, pos 0) in
+    let high = getD ceilings i (pos 0, pos 0) in
+    figure (pos (i + 1), (pos (getD plan i 0), (low .0, (low .1, (high .0, high .1)))))
 
 -- the lines of each kind
 abbrev pub gradesText : List ℕ → (ℕ → List ℕ) → ℕ → List ℕ
@@ -70,12 +74,12 @@ rowsText rs label = series (λ i. lineText (rowEntry rs (label i) i))
 abbrev pub arcsText : List Arc → ℕ → List ℕ
 arcsText xs = series (λ i. lineText (arcEntry xs i))
 
-abbrev pub figuresText : Figures → ℕ → List ℕ
-figuresText f = series (λ i. lineText (figureEntry f i))
+abbrev pub figuresText : List ℕ → List (ℤ × ℤ) → List (ℤ × ℤ) → ℕ → List ℕ
+figuresText plan floors ceilings = series (λ i. lineText (figureEntry plan floors ceilings i))
 
 -- a figure line for each grade, where there are figures
 abbrev pub figurePart : ℕ → Option Figures → List ℕ
-figurePart grades (Some f) = figuresText f grades
+figurePart grades (Some f) = figuresText (f .row) (f .floor .at) (f .ceiling .at) grades
 figurePart grades None = []
 
 -- the whole sheet of a table, with figures or without, and the labels of grades and rows

@@ -1,22 +1,19 @@
-ghost use mathlib.Core.Path.{_≡_};
-ghost use Prim.Native.Nat.{_+_, _≤_, _<_};
+ghost use Prim.Native.Nat.{_≤_, _<_};
 ghost use lib.ListN.{length};
 ghost use Rattle.std.specs.declared.option.Option.the-variants.{Some, None};
 ghost use Rattle.std.specs.declared.result.Result.the-variants.{Ok, Err};
-ghost use Rattle.table.specs.Ranges.{ArcIn, ArcsIn};
-ghost use Rattle.sheet.specs.Read.{FaultIn};
+ghost use Rattle.sheet.specs.Read.{FaultIn, ArcSaid, ArcRead, ArcsRead};
 use crate::fault::TextFault;
 use crate::header::Header;
-use crate::line_reading::line_at;
+use crate::kind_reading::arc_at;
 use crate::lines::ArcLine;
-use crate::lines::Line;
 use crate::ranges::count;
 use table::Arc;
 use table::MAX_ARCS;
 
 /// What the line says of its arc, where all of that is in range.
 fn arc_of(line: &ArcLine, header: &Header) -> Option<Arc>
-    ensures { λ r. ⌜ elim r [ Some arc ↦ ArcIn (now (header .entry) .grades) (now (header .entry) .arcs) (now (header .entry) .total) arc | None ↦ Unit {0} ] ⌝ }
+    ensures { λ r. ⌜ elim r [ Some arc ↦ ArcSaid (now (header .entry) .grades) (now (header .entry) .arcs) (now (header .entry) .total) (now (line .entry)) arc | None ↦ Unit {0} ] ⌝ }
 {
     let next = count(line.next, 0, header.arcs)?;
     let destination = count(line.destination, 1, header.grades)?;
@@ -28,21 +25,21 @@ fn arc_of(line: &ArcLine, header: &Header) -> Option<Arc>
     })
 }
 
-/// The line of the arc `number`, the sheet's line `line`: the arc, and the place after it.
+/// The line of the arc `i + 1`, the sheet's line `line`: the arc, and the place after it.
 fn arc_line(
     sheet: &[u8],
     at: usize,
     line: usize,
-    number: usize,
+    i: usize,
     header: &Header,
 ) -> Result<(Arc, usize), TextFault>
-    requires { ⌜ number ≤ 512 ⌝ }
-    ensures { λ r. ⌜ elim r [ Ok p ↦ ArcIn (now (header .entry) .grades) (now (header .entry) .arcs) (now (header .entry) .total) (p .0) × (p .1 ≤ length (now (sheet .entry))) | Err e ↦ FaultIn line line e ] ⌝ }
+    requires { ⌜ i < 512 ⌝ }
+    ensures { λ r. ⌜ elim r [ Ok p ↦ ArcRead (now (sheet .entry)) at i (now (header .entry) .grades) (now (header .entry) .arcs) (now (header .entry) .total) (p .0) (p .1) | Err e ↦ FaultIn line line e ] ⌝ }
 {
-    let Ok((Line::Arc(text), next)) = line_at(sheet, at) else {
+    let Some((text, next)) = arc_at(sheet, at) else {
         return Err(TextFault::Form { line });
     };
-    if text.number != number as i64 {
+    if text.number != (i + 1) as i64 {
         return Err(TextFault::Range { line });
     }
     match arc_of(&text, header) {
@@ -58,7 +55,7 @@ pub fn read_arcs(
     header: &Header,
 ) -> Result<([Arc; MAX_ARCS], usize), TextFault>
     requires { ⌜ at ≤ length (now sheet) ⌝ }
-    ensures { λ r. ⌜ elim r [ Ok p ↦ ArcsIn (now (header .entry) .grades) (now (header .entry) .arcs) (now (header .entry) .total) (p .0) × (p .1 ≤ length (now (sheet .entry))) | Err e ↦ FaultIn 2 641 e ] ⌝ }
+    ensures { λ r. ⌜ elim r [ Ok p ↦ ArcsRead (now (sheet .entry)) at (now (header .entry) .arcs) (now (header .entry) .grades) (now (header .entry) .arcs) (now (header .entry) .total) (p .0) (p .1) | Err e ↦ FaultIn 2 641 e ] ⌝ }
 {
     let mut arc = [Arc {
         next: 0,
@@ -67,13 +64,7 @@ pub fn read_arcs(
     }; MAX_ARCS];
     let mut at = at;
     for i in 0..header.arcs {
-        let (read, next) = arc_line(
-            sheet,
-            at,
-            2 + header.grades + header.rows + i,
-            i + 1,
-            header,
-        )?;
+        let (read, next) = arc_line(sheet, at, 2 + header.grades + header.rows + i, i, header)?;
         arc[i] = read;
         at = next;
     }

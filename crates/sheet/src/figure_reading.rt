@@ -1,15 +1,12 @@
-ghost use mathlib.Core.Path.{_≡_};
-ghost use Prim.Native.Nat.{_+_, _≤_, _<_};
+ghost use Prim.Native.Nat.{_≤_, _<_};
 ghost use lib.ListN.{length};
 ghost use Rattle.std.specs.declared.option.Option.the-variants.{Some, None};
 ghost use Rattle.std.specs.declared.result.Result.the-variants.{Ok, Err};
-ghost use Rattle.table.specs.Ranges.{Within, FigureIn, FirstsIn};
-ghost use Rattle.sheet.specs.Read.{FaultIn, PlansIn};
+ghost use Rattle.sheet.specs.Read.{FaultIn, FigureSaid, FigureRead, FigurePartRead};
 use crate::fault::TextFault;
 use crate::header::Header;
-use crate::line_reading::line_at;
+use crate::kind_reading::figure_at;
 use crate::lines::FigureLine;
-use crate::lines::Line;
 use crate::ranges::count;
 use crate::ranges::near;
 use table::Column;
@@ -27,7 +24,7 @@ struct Figure {
 
 /// What the line says of its grade, where all of that is in range.
 fn figure_of(line: &FigureLine, rows: usize) -> Option<Figure>
-    ensures { λ r. ⌜ elim r [ Some f ↦ Within 1 rows (f .row) × FigureIn (f .floor) × FigureIn (f .ceiling) | None ↦ Unit {0} ] ⌝ }
+    ensures { λ r. ⌜ elim r [ Some f ↦ FigureSaid rows (now (line .entry)) (f .row) (f .floor) (f .ceiling) | None ↦ Unit {0} ] ⌝ }
 {
     let row = count(line.row, 1, rows)?;
     if !near(line.floor_first, MAX_FIGURE_PART) || !near(line.floor_second, MAX_FIGURE_PART) {
@@ -43,21 +40,21 @@ fn figure_of(line: &FigureLine, rows: usize) -> Option<Figure>
     })
 }
 
-/// The figure line of the grade `grade`, the sheet's line `line`: its figures, and the place after it.
+/// The figure line of the grade `i + 1`, the sheet's line `line`: its figures, and the place after it.
 fn figure_line(
     sheet: &[u8],
     at: usize,
     line: usize,
-    grade: usize,
+    i: usize,
     rows: usize,
 ) -> Result<(Figure, usize), TextFault>
-    requires { ⌜ grade ≤ 32 ⌝ }
-    ensures { λ r. ⌜ elim r [ Ok p ↦ Within 1 rows (p .0 .row) × FigureIn (p .0 .floor) × FigureIn (p .0 .ceiling) × (p .1 ≤ length (now (sheet .entry))) | Err e ↦ FaultIn line line e ] ⌝ }
+    requires { ⌜ i < 32 ⌝ }
+    ensures { λ r. ⌜ elim r [ Ok p ↦ FigureRead (now (sheet .entry)) at i rows (p .0 .row) (p .0 .floor) (p .0 .ceiling) (p .1) | Err e ↦ FaultIn line line e ] ⌝ }
 {
-    let Ok((Line::Figure(text), next)) = line_at(sheet, at) else {
+    let Some((text, next)) = figure_at(sheet, at) else {
         return Err(TextFault::Form { line });
     };
-    if text.grade != grade as i64 {
+    if text.grade != (i + 1) as i64 {
         return Err(TextFault::Range { line });
     }
     match figure_of(&text, rows) {
@@ -73,7 +70,7 @@ pub fn read_figures(
     header: &Header,
 ) -> Result<(Option<Figures>, usize), TextFault>
     requires { ⌜ at ≤ length (now sheet) ⌝ }
-    ensures { λ r. ⌜ elim r [ Ok p ↦ PlansIn (now (header .entry) .grades) (now (header .entry) .rows) (p .0) × (p .1 ≤ length (now (sheet .entry))) | Err e ↦ FaultIn 2 673 e ] ⌝ }
+    ensures { λ r. ⌜ elim r [ Ok p ↦ FigurePartRead (now (sheet .entry)) at (now (header .entry) .figured) (now (header .entry) .grades) (now (header .entry) .rows) (p .0) (p .1) | Err e ↦ FaultIn 2 673 e ] ⌝ }
 {
     if !header.figured {
         return Ok((None, at));
@@ -84,7 +81,7 @@ pub fn read_figures(
     let mut at = at;
     for i in 0..header.grades {
         let line = 2 + header.grades + header.rows + header.arcs + i;
-        let (figure, next) = figure_line(sheet, at, line, i + 1, header.rows)?;
+        let (figure, next) = figure_line(sheet, at, line, i, header.rows)?;
         row[i] = figure.row;
         floor[i] = figure.floor;
         ceiling[i] = figure.ceiling;

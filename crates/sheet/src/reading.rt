@@ -1,6 +1,7 @@
 ghost use mathlib.Core.Path.{_≡_};
 ghost use Prim.Native.Nat.{_+_, _≤_, _<_};
-ghost use lib.ListN.{length};
+ghost use lib.ListN.{length, drop};
+ghost use Rattle.sheet.specs.Lines.{lineText, end};
 ghost use Rattle.std.specs.declared.result.Result.the-variants.{Ok, Err};
 ghost use Rattle.sheet.specs.Read.{FormIn};
 ghost use Rattle.sheet.specs.Whole.{SheetIn, Refused};
@@ -9,9 +10,8 @@ use crate::fault::TextFault;
 use crate::figure_reading::read_figures;
 use crate::grade_reading::read_grades;
 use crate::header_reading::read_header;
+use crate::kind_reading::end_at;
 use crate::labels::Labels;
-use crate::line_reading::line_at;
-use crate::lines::Line;
 use crate::row_reading::read_rows;
 use crate::whole::Sheet;
 use table::Table;
@@ -22,9 +22,9 @@ pub const MAX_SHEET: usize = 32_768;
 /// The line `end`, the sheet's line `line`, with nothing after it.
 fn read_end(sheet: &[u8], at: usize, line: usize) -> Result<(), TextFault>
     requires { ⌜ line ≤ 674 ⌝ }
-    ensures { λ r. ⌜ elim r [ Ok _ ↦ Unit {0} | Err e ↦ FormIn line (line + 1) e ] ⌝ }
+    ensures { λ r. ⌜ elim r [ Ok _ ↦ drop at (now (sheet .entry)) ≡ lineText end | Err e ↦ FormIn line (line + 1) e ] ⌝ }
 {
-    let Ok((Line::End, next)) = line_at(sheet, at) else {
+    let Some(next) = end_at(sheet, at) else {
         return Err(TextFault::Form { line });
     };
     if next < sheet.len() {
@@ -35,7 +35,7 @@ fn read_end(sheet: &[u8], at: usize, line: usize) -> Result<(), TextFault>
 
 /// What a whole sheet says, where every line is of the form due there and every number in range.
 pub fn read(sheet: &[u8]) -> Result<Sheet, TextFault>
-    ensures { λ r. ⌜ elim r [ Ok s ↦ SheetIn (length (now (sheet .entry))) s | Err e ↦ Refused (length (now (sheet .entry))) e ] ⌝ }
+    ensures { λ r. ⌜ elim r [ Ok s ↦ SheetIn (now (sheet .entry)) s | Err e ↦ Refused (length (now (sheet .entry))) e ] ⌝ }
 {
     if sheet.len() > MAX_SHEET {
         return Err(TextFault::TooLong);

@@ -1,16 +1,12 @@
-ghost use mathlib.Core.Path.{_≡_};
-ghost use Prim.Native.Nat.{_+_, _≤_, _<_};
+ghost use Prim.Native.Nat.{_≤_, _<_};
 ghost use lib.ListN.{length};
 ghost use Rattle.std.specs.declared.option.Option.the-variants.{Some, None};
 ghost use Rattle.std.specs.declared.result.Result.the-variants.{Ok, Err};
-ghost use Rattle.table.specs.Ranges.{RowIn, RowsIn};
-ghost use Rattle.sheet.specs.Read.{FaultIn};
-ghost use Rattle.sheet.specs.Spans.{SpanIn, SpansIn};
+ghost use Rattle.sheet.specs.Read.{FaultIn, RowSaid, RowRead, RowsRead};
 use crate::fault::TextFault;
 use crate::header::Header;
+use crate::kind_reading::row_at;
 use crate::labels::Span;
-use crate::line_reading::line_at;
-use crate::lines::Line;
 use crate::lines::RowLine;
 use crate::ranges::count;
 use crate::ranges::near;
@@ -20,7 +16,7 @@ use table::Row;
 
 /// What the line says of its row, where all of that is in range.
 fn row_of(line: &RowLine<'_>, header: &Header) -> Option<Row>
-    ensures { λ r. ⌜ elim r [ Some row ↦ RowIn (now (header .entry) .rows) (now (header .entry) .arcs) row | None ↦ Unit {0} ] ⌝ }
+    ensures { λ r. ⌜ elim r [ Some row ↦ RowSaid (now (header .entry) .rows) (now (header .entry) .arcs) (now (line .entry)) row | None ↦ Unit {0} ] ⌝ }
 {
     let next = count(line.next, 0, header.rows)?;
     if !near(line.first_part, MAX_COST_PART) || !near(line.second_part, MAX_COST_PART) {
@@ -34,21 +30,21 @@ fn row_of(line: &RowLine<'_>, header: &Header) -> Option<Row>
     })
 }
 
-/// The line of the row `number`, the sheet's line `line`: the row, where its label lies, and the place after it.
+/// The line of the row `i + 1`, the sheet's line `line`: the row, where its label lies, and the place after it.
 fn row_line(
     sheet: &[u8],
     at: usize,
     line: usize,
-    number: usize,
+    i: usize,
     header: &Header,
 ) -> Result<(Row, Span, usize), TextFault>
-    requires { ⌜ number ≤ 96 ⌝ }
-    ensures { λ r. ⌜ elim r [ Ok p ↦ RowIn (now (header .entry) .rows) (now (header .entry) .arcs) (p .0) × SpanIn (length (now (sheet .entry))) (p .1) × (p .2 ≤ length (now (sheet .entry))) | Err e ↦ FaultIn line line e ] ⌝ }
+    requires { ⌜ i < 96 ⌝ }
+    ensures { λ r. ⌜ elim r [ Ok p ↦ RowRead (now (sheet .entry)) at i (now (header .entry) .rows) (now (header .entry) .arcs) (p .0) (p .1) (p .2) | Err e ↦ FaultIn line line e ] ⌝ }
 {
-    let Ok((Line::Row(text), next)) = line_at(sheet, at) else {
+    let Some((text, next)) = row_at(sheet, at) else {
         return Err(TextFault::Form { line });
     };
-    if text.number != number as i64 {
+    if text.number != (i + 1) as i64 {
         return Err(TextFault::Range { line });
     }
     let Some(row) = row_of(&text, header) else {
@@ -72,7 +68,7 @@ pub fn read_rows(
     header: &Header,
 ) -> Result<([Row; MAX_ROWS], [Span; MAX_ROWS], usize), TextFault>
     requires { ⌜ at ≤ length (now sheet) ⌝ }
-    ensures { λ r. ⌜ elim r [ Ok p ↦ RowsIn (now (header .entry) .rows) (now (header .entry) .arcs) (p .0) × SpansIn (now (header .entry) .rows) (length (now (sheet .entry))) (p .1) × (p .2 ≤ length (now (sheet .entry))) | Err e ↦ FaultIn 2 129 e ] ⌝ }
+    ensures { λ r. ⌜ elim r [ Ok p ↦ RowsRead (now (sheet .entry)) at (now (header .entry) .rows) (now (header .entry) .rows) (now (header .entry) .arcs) (p .0) (p .1) (p .2) | Err e ↦ FaultIn 2 129 e ] ⌝ }
 {
     let mut row = [Row {
         next: 0,
@@ -82,7 +78,7 @@ pub fn read_rows(
     let mut label = [Span { start: 0, end: 0 }; MAX_ROWS];
     let mut at = at;
     for i in 0..header.rows {
-        let (read, span, next) = row_line(sheet, at, 2 + header.grades + i, i + 1, header)?;
+        let (read, span, next) = row_line(sheet, at, 2 + header.grades + i, i, header)?;
         row[i] = read;
         label[i] = span;
         at = next;

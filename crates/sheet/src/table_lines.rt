@@ -87,7 +87,7 @@ pub fn arc_line(table: &Table, i: usize) -> Line<'static>
 /// The figure line of the grade `i + 1`.
 pub fn figure_line(figures: &Figures, i: usize) -> Line<'static>
     requires { ⌜ i < 32 ⌝ ∗ ⌜ getD (now figures .row) i 0 ≤ 96 ⌝ }
-    ensures { λ r. ⌜ entryOf r ≡ figureEntry (now (figures .entry)) i ⌝ }
+    ensures { λ r. ⌜ entryOf r ≡ figureEntry (now (figures .entry) .row) (now (figures .entry) .floor .at) (now (figures .entry) .ceiling .at) i ⌝ }
 {
     let (floor_first, floor_second) = figures.floor.at[i];
     let (ceiling_first, ceiling_second) = figures.ceiling.at[i];

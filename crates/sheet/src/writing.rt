@@ -1,6 +1,6 @@
 ghost use mathlib.Core.Path.{_≡_};
 ghost use Prim.Native.Nat.{_≤_, _<_};
-ghost use lib.ListN.{length, drop};
+ghost use lib.ListN.{length};
 ghost use Rattle.std.specs.declared.option.Option.the-variants.{Some, None};
 ghost use Rattle.std.specs.declared.result.Result.the-variants.{Ok, Err};
 ghost use Rattle.text.specs.Writing.{Writes};
@@ -8,6 +8,8 @@ ghost use Rattle.table.specs.Ranges.{FirstsIn};
 ghost use Rattle.sheet.specs.Read.{PlansIn};
 ghost use Rattle.sheet.specs.Render.{labelsOf, gradesText, rowsText, arcsText, figuresText, figurePart, figuresOf, render};
 ghost use Rattle.sheet.specs.Spans.{SpansIn};
+ghost use Rattle.sheet.specs.Whole.{lineOf};
+ghost use Rattle.sheet.specs.Written.{Wrote};
 use crate::fault::TextFault;
 use crate::labels::Labels;
 use crate::labels::Span;
@@ -76,7 +78,7 @@ fn write_arcs(out: &mut [u8], at: usize, table: &Table) -> Option<usize>
 
 fn write_figures(out: &mut [u8], at: usize, table: &Table, figures: &Figures) -> Option<usize>
     requires { ⌜ FirstsIn (now table .grades) (now table .rows) (now figures .row) ⌝ ∗ ⌜ at ≤ length (now out) ⌝ }
-    ensures { λ r. ⌜ Writes (now (out .entry)) at (figuresText (now (figures .entry)) (now (table .entry) .grades)) r (now (out .exit)) ⌝ }
+    ensures { λ r. ⌜ Writes (now (out .entry)) at (figuresText (now (figures .entry) .row) (now (figures .entry) .floor .at) (now (figures .entry) .ceiling .at) (now (table .entry) .grades)) r (now (out .exit)) ⌝ }
 {
     let mut at = at;
     for i in 0..table.grades {
@@ -132,7 +134,9 @@ fn write_all(
 }
 
 /// The line of a fault of the old sheet, 0 where it is none of a line.
-fn line_of(fault: TextFault) -> usize {
+fn line_of(fault: TextFault) -> usize
+    ensures { λ r. ⌜ r ≡ lineOf fault ⌝ }
+{
     match fault {
         TextFault::Form { line } | TextFault::Range { line } => line,
         TextFault::TooLong | TextFault::NoLine { .. } => 0,
@@ -148,7 +152,7 @@ pub fn write(
     old: &[u8],
 ) -> Result<usize, WriteFault>
     requires { ⌜ PlansIn (now table .grades) (now table .rows) (now figures) ⌝ }
-    ensures { λ r. ⌜ elim r [ Ok n ↦ (n ≤ length (now (out .entry))) × (drop n (now (out .exit)) ≡ drop n (now (out .entry))) | Err e ↦ now (out .exit) ≡ now (out .entry) ] ⌝ }
+    ensures { λ r. ⌜ Wrote (now (out .entry)) (now (old .entry)) (now (table .entry)) (now (figures .entry)) r (now (out .exit)) ⌝ }
 {
     let sheet = match read(old) {
         Ok(sheet) => sheet,
@@ -159,12 +163,11 @@ pub fn write(
     if sheet.table.grades != table.grades || sheet.table.rows != table.rows {
         return Err(WriteFault::OldSheet { line: 0 });
     }
+    // The draft has room for every sheet, so that the length is known before `out` is touched.
     let mut draft = [0; MAX_SHEET];
-    // No sheet fills the draft, so its end is never met.
-    let Some(n) = write_all(&mut draft, table, figures, &sheet.labels, old) else {
-        return Err(WriteFault::Room {
-            length: MAX_SHEET + 1,
-        });
+    let n = match write_all(&mut draft, table, figures, &sheet.labels, old) {
+        Some(n) => n,
+        None => unreachable(),
     };
     if n > out.len() {
         return Err(WriteFault::Room { length: n });
