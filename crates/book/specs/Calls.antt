@@ -11,43 +11,78 @@ use Rattle.std.specs.declared.result.Result.{Result}
 use Rattle.std.specs.declared.result.Result.the-variants.{Ok, Err}
 use Rattle.rankings.specs.Costs.{Cost}
 use Rattle.table.specs.declared.page.Page.{Page}
+use Rattle.table.specs.declared.figures.Figures.{Figures as Lines}
+use Rattle.table.specs.declared.fault.TableFault.{TableFault}
+use Rattle.table.specs.declared.fault.FiguresFault.{FiguresFault}
 use Rattle.table.specs.Faults.{tableFault}
+use Rattle.table.specs.Rules.{figuresFault}
+use Rattle.planner.specs.Start.{Start}
 use Rattle.planner.specs.Sweeps.{shown, sweeps}
-use Rattle.sheet.specs.declared.write_fault.WriteFault.{WriteFault}
+use Rattle.sheet.specs.declared.whole.Sheet.{Sheet}
+use Rattle.sheet.specs.Whole.{SheetIn, Refused}
+use Rattle.sheet.specs.Written.{Wrote, shownOf}
 use Rattle.book.specs.declared.calls.SweepCount.{SweepCount}
 use Rattle.book.specs.declared.refusal.Refusal.{Refusal}
 use Rattle.book.specs.declared.refusal.Refusal.the-variants.{Text, Table, Figures, NoTable, Sweeps, Write}
 
--- a refusal of text, table or figures
-abbrev pub OfSheet : Refusal → Type 0
-OfSheet (Text f) = Unit {0}
-OfSheet (Table f) = Unit {0}
-OfSheet (Figures f) = Unit {0}
-OfSheet NoTable = ⊥
-OfSheet Sweeps = ⊥
-OfSheet (Write f) = ⊥
+module _ (le : Cost → Cost → Bool) (text : List ℕ) where
+  -- the figures of a page that is opened: those of the sheet, which keep the rules, or else start figures
+  abbrev pub FiguresOpen : Page → Option Lines → Type 0
+  FiguresOpen p (Some f) = (p .figures ≡ f) × (figuresFault le (p .sound .table) f ≡ None)
+  FiguresOpen p None = Start le p
 
--- a page that a sheet opens to has a table without a fault
-abbrev pub Opens : Result Page Refusal → Type 0
-Opens (Ok p) = tableFault (p .sound .table) ≡ None
-Opens (Err e) = OfSheet e
+  -- the sheet says s, and the page is its table with such figures
+  pub record PageOf (p : Page) (s : Sheet) : Type 0 where
+    pub reads : SheetIn text s
+    pub table : p .sound .table ≡ s .table
+    pub faultless : tableFault (s .table) ≡ None
+    pub figures : FiguresOpen p (s .figures)
 
--- opening: the book then has such a page; a refusal leaves the old page
-abbrev pub Opened : Option Page → Result Unit Refusal → Option Page → Type 0
-Opened before (Ok u) (Some p) = tableFault (p .sound .table) ≡ None
-Opened before (Ok u) None = ⊥
-Opened before (Err e) after = OfSheet e × (after ≡ before)
+  -- the sheet says s, whose table has the fault
+  pub record TableBroken (f : TableFault) (s : Sheet) : Type 0 where
+    pub reads : SheetIn text s
+    pub fault : tableFault (s .table) ≡ Some f
 
--- writing: 12 without a table; else a length, beyond which the buffer stays, or a refusal of writing, which leaves it
-abbrev pub Written : Option Page → List ℕ → Result ℕ Refusal → List ℕ → Type 0
-Written None before r after = (r ≡ Err NoTable) × (after ≡ before)
-Written (Some p) before (Ok n) after = (n ≤ length before) × (drop n after ≡ drop n before)
-Written (Some p) before (Err (Write f)) after = after ≡ before
-Written (Some p) before (Err (Text f)) after = ⊥
-Written (Some p) before (Err (Table f)) after = ⊥
-Written (Some p) before (Err (Figures f)) after = ⊥
-Written (Some p) before (Err NoTable) after = ⊥
-Written (Some p) before (Err Sweeps) after = ⊥
+  abbrev pub FiguresBreak : FiguresFault → Sheet → Option Lines → Type 0
+  FiguresBreak f s (Some g) = figuresFault le (s .table) g ≡ Some f
+  FiguresBreak f s None = ⊥
+
+  -- the sheet says s, whose table has no fault, and whose figures break the rule
+  pub record FiguresBroken (f : FiguresFault) (s : Sheet) : Type 0 where
+    pub reads : SheetIn text s
+    pub faultless : tableFault (s .table) ≡ None
+    pub fault : FiguresBreak f s (s .figures)
+
+  -- why a sheet is not opened: its text, then its table, then its figures
+  abbrev pub NotOpened : Refusal → Type 0
+  NotOpened (Text f) = Refused (length text) f
+  NotOpened (Table f) = (s : Sheet) × TableBroken f s
+  NotOpened (Figures f) = (s : Sheet) × FiguresBroken f s
+  NotOpened NoTable = ⊥
+  NotOpened Sweeps = ⊥
+  NotOpened (Write f) = ⊥
+
+  -- what a sheet opens to
+  abbrev pub Opens : Result Page Refusal → Type 0
+  Opens (Ok p) = (s : Sheet) × PageOf p s
+  Opens (Err e) = NotOpened e
+
+  -- opening: the book then has that page; a refusal leaves the old page
+  abbrev pub Opened : Option Page → Result Unit Refusal → Option Page → Type 0
+  Opened before (Ok u) (Some p) = (s : Sheet) × PageOf p s
+  Opened before (Ok u) None = ⊥
+  Opened before (Err e) after = NotOpened e × (after ≡ before)
+
+-- writing: 12 without a table; else what the writing of a page answers and leaves
+abbrev pub Written : Bool → List ℕ → Option Page → List ℕ → Result ℕ Refusal → List ℕ → Type 0
+Written figured old None before r after = (r ≡ Err NoTable) × (after ≡ before)
+Written figured old (Some p) before (Ok n) after = Wrote before old (p .sound .table) (shownOf figured (p .figures)) (Ok n) after
+Written figured old (Some p) before (Err (Write f)) after = Wrote before old (p .sound .table) (shownOf figured (p .figures)) (Err f) after
+Written figured old (Some p) before (Err (Text f)) after = ⊥
+Written figured old (Some p) before (Err (Table f)) after = ⊥
+Written figured old (Some p) before (Err (Figures f)) after = ⊥
+Written figured old (Some p) before (Err NoTable) after = ⊥
+Written figured old (Some p) before (Err Sweeps) after = ⊥
 
 -- sweeping with n: 12 without a table; then 15 where n is not 1 to 1,000; else the defined sweeps of the page
 module _ (le : Cost → Cost → Bool) (cheap dear : Cost → ℕ → Cost) (n : ℕ) where

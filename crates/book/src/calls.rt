@@ -28,7 +28,7 @@ pub struct SweepCount {
 
 /// The page that a sheet opens to: its table with its figures, or with start figures where it has none.
 fn read_page<R: Ranking>(ranking: &R, text: &[u8]) -> Result<Page, Refusal>
-    ensures { λ r. ⌜ Opens r ⌝ }
+    ensures { λ r. ⌜ Opens (ranks (now (ranking .entry))) (now (text .entry)) r ⌝ }
 {
     let sheet = match read(text) {
         Ok(sheet) => sheet,
@@ -38,12 +38,12 @@ fn read_page<R: Ranking>(ranking: &R, text: &[u8]) -> Result<Page, Refusal>
         Ok(sound) => sound,
         Err(fault) => return Err(Refusal::Table(fault)),
     };
-    let Some(figures) = sheet.figures else {
-        return Ok(start_page(ranking, &sound));
-    };
-    match first_broken(ranking, &sound, &figures) {
-        Some(fault) => Err(Refusal::Figures(fault)),
-        None => Ok(Page { sound, figures }),
+    match sheet.figures {
+        None => Ok(start_page(ranking, &sound)),
+        Some(figures) => match first_broken(ranking, &sound, &figures) {
+            Some(fault) => Err(Refusal::Figures(fault)),
+            None => Ok(Page { sound, figures }),
+        },
     }
 }
 
@@ -59,7 +59,7 @@ impl<R: Ranking> Book<R> {
     /// the book as it is.
     pub fn open(&mut self, text: &[u8]) -> Result<(), Refusal>
         ensures ranking { λ _. ⌜ now (self .exit) .ranking ≡ now (self .entry) .ranking ⌝ }
-        ensures page { λ r. ⌜ Opened (now (self .entry) .page) r (now (self .exit) .page) ⌝ }
+        ensures page { λ r. ⌜ Opened (R·Ranking .ranks (now (self .entry) .ranking)) (now (text .entry)) (now (self .entry) .page) r (now (self .exit) .page) ⌝ }
     {
         match read_page(&self.ranking, text) {
             Ok(page) => {
@@ -73,7 +73,7 @@ impl<R: Ranking> Book<R> {
     /// Writes the book's table as a sheet, with its figures or without, with the labels of an old sheet, and returns
     /// the sheet's length. What `out` holds beyond that stays; a refusal leaves all of `out`.
     pub fn write(&self, figured: bool, old: &[u8], out: &mut [u8]) -> Result<usize, Refusal>
-        ensures { λ r. ⌜ Written (now (self .entry) .page) (now (out .entry)) r (now (out .exit)) ⌝ }
+        ensures { λ r. ⌜ Written figured (now (old .entry)) (now (self .entry) .page) (now (out .entry)) r (now (out .exit)) ⌝ }
     {
         let Some(page) = self.page else {
             return Err(Refusal::NoTable);

@@ -1,8 +1,11 @@
 -- The figures that a plan starts from. Assumes nothing.
+use mathlib.Core.Path.{_≡_}
 use mathlib.Core.List.{List, [], _∷_}
 use mathlib.Core.Bool.{Bool, cond}
 use Prim.Native.Nat.{ℕ, zero as none, suc, _+_, _*_}
+use lib.ListN.{replicate}
 use Rattle.rankings.specs.Costs.{Cost, times, zero}
+use Rattle.table.specs.declared.page.Page.{Page}
 use Rattle.table.specs.declared.table.Table.{Table}
 use Rattle.table.specs.Chains.{rowAt}
 
@@ -34,3 +37,9 @@ dearestCost le t = dearestAmong le zero (rowCosts t)
 -- q · b · c
 abbrev pub startFigure : Table → Cost → Cost
 startFigure t c = times (t .fineness * t .denominator) c
+
+-- a page with start figures
+pub record Start (le : Cost → Cost → Bool) (p : Page) : Type 0 where
+  pub rows : p .figures .row ≡ p .sound .table .«first_row»
+  pub floors : p .figures .floor .at ≡ replicate 32 (startFigure (p .sound .table) (cheapestCost le (p .sound .table)))
+  pub ceilings : p .figures .ceiling .at ≡ replicate 32 (startFigure (p .sound .table) (dearestCost le (p .sound .table)))

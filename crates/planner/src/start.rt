@@ -1,8 +1,6 @@
 ghost use mathlib.Core.Path.{_≡_};
-ghost use lib.ListN.{replicate};
-ghost use Prim.Native.Nat.{_*_};
 ghost use Rattle.rankings.specs.Costs.{Within as Sized};
-ghost use Rattle.planner.specs.Start.{cheapestCost, dearestCost, startFigure};
+ghost use Rattle.planner.specs.Start.{cheapestCost, dearestCost, Start};
 use rankings::Ranking;
 use rankings::cheaper;
 use rankings::dearer;
@@ -46,9 +44,7 @@ fn dearest_cost<R: Ranking>(ranking: &R, table: &Table) -> (i64, i64)
 /// first row.
 pub fn start_page<R: Ranking>(ranking: &R, sound: &SoundTable) -> Page
     ensures table { λ r. ⌜ r .sound ≡ now (sound .entry) ⌝ }
-    ensures rows { λ r. ⌜ r .figures .row ≡ now (sound .entry) .table .«first_row» ⌝ }
-    ensures floors { λ r. ⌜ r .figures .floor .at ≡ replicate 32 (startFigure (now (sound .entry) .table) (cheapestCost (ranks (now (ranking .entry))) (now (sound .entry) .table))) ⌝ }
-    ensures ceilings { λ r. ⌜ r .figures .ceiling .at ≡ replicate 32 (startFigure (now (sound .entry) .table) (dearestCost (ranks (now (ranking .entry))) (now (sound .entry) .table))) ⌝ }
+    ensures start { λ r. ⌜ Start (ranks (now (ranking .entry))) r ⌝ }
 {
     let table = &sound.table;
     let unit = table.fineness * table.denominator;
