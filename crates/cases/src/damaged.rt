@@ -117,3 +117,27 @@ pub(crate) const WITHIN: [Edit; 5] = [
     Edit { old: b"tidy", new: b"abcdefghijklmnopqrstuvwx", answer: b"sheet 2 3 4 4 1 2 1 2\ng 1 1 abcdefghijklmnopqrstuvwx\n" },
     Edit { old: b"r 3 0 27 0", new: b"r 3 0 -100000 100000", answer: b"sheet 2 3 4 4 1 2 1 2\ng 1 1 tidy\ng 2 2 drift\nr 1 0 0 0 1 leave\nr 2 3 20 0 3 leave\nr 3 0 -100000 100000 4 count\n" },
 ];
+
+/// A grade with three rows of which two point at each other: each row is pointed at once, but rows 2 and 3 hang loose.
+pub(crate) const LOOSE_ROWS: &[u8] = b"\
+sheet 1 3 3 1 1 2 1 0\n\
+g 1 1 only\n\
+r 1 0 0 0 1 first\n\
+r 2 3 0 0 2 second\n\
+r 3 2 0 0 3 third\n\
+t 1 0 1 1\n\
+t 2 0 1 1\n\
+t 3 0 1 1\n\
+end\n\
+";
+
+/// A row with three arcs of which two point at each other.
+pub(crate) const LOOSE_ARCS: &[u8] = b"\
+sheet 1 1 3 1 1 2 1 0\n\
+g 1 1 only\n\
+r 1 0 0 0 1 first\n\
+t 1 0 1 1\n\
+t 2 3 1 1\n\
+t 3 2 1 1\n\
+end\n\
+";

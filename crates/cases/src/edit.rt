@@ -1,4 +1,3 @@
-use crate::answers::answers;
 use std::alloc::AllocError;
 use std::alloc::Global;
 use std::test::*;
@@ -23,8 +22,8 @@ fn edited(heap: Global, text: &[u8], old: &[u8], new: &[u8]) -> Result<Option<Ve
     Ok(None)
 }
 
-/// Passes if a recount of the changed sheet prints the answer.
-pub(crate) fn check_edit(heap: Global, sheet: &[u8], edit: &Edit) -> Result<(), Fail> {
-    let changed = edited(heap, sheet, edit.old, edit.new)?.ok_or("the old text does not stand in the sheet")?;
-    check(answers(&changed, edit.answer))
+/// The changed sheet; a test fails where the old text is not there.
+pub(crate) fn changed(heap: Global, sheet: &[u8], edit: &Edit) -> Result<Vec<u8>, Fail> {
+    let text = edited(heap, sheet, edit.old, edit.new)?.ok_or("the old text does not stand in the sheet")?;
+    Ok(text)
 }

@@ -110,3 +110,14 @@ f 3 5 186348 0 186363 0\n\
 f 4 7 194530 0 194545 0\n\
 end\n\
 ";
+
+/// What each condition of the machine costs under the best plan, in whole coins, and the row that this plan names: leave,
+/// leave, overhaul, replace.
+pub(crate) const MACHINE_KNOWN: [(i32, usize); 4] = [(14_949, 1), (16_262, 2), (18_636, 5), (19_454, 7)];
+
+/// The last lines of the shop of two grades as it is opened, after one sweep and after two.
+pub(crate) const TWO_GRADES_SWEPT: [&[u8]; 3] = [
+    b"\nf 1 1 0 0 54 0\nf 2 2 0 0 54 0\nend\n",
+    b"\nf 1 1 0 0 27 0\nf 2 2 20 0 47 0\nend\n",
+    b"\nf 1 1 2 0 16 0\nf 2 3 27 0 41 0\nend\n",
+];
