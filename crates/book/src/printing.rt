@@ -1,9 +1,8 @@
 ghost use mathlib.Core.Path.{_≡_};
 ghost use Prim.Native.Nat.{_≤_};
 ghost use lib.ListN.{length};
-ghost use Rattle.std.specs.declared.result.Result.the-variants.{Ok, Err};
 ghost use Rattle.text.specs.Writing.{Writes};
-ghost use Rattle.book.specs.Printing.{refusalText};
+ghost use Rattle.book.specs.Printing.{refusalText, Recounted, Printed};
 use crate::book::Book;
 use crate::limits::RECOUNT_SWEEPS;
 use crate::refusal::Refusal;
@@ -31,7 +30,7 @@ fn write_refusal(out: &mut [u8], refusal: &Refusal) -> Option<usize>
 
 /// Opens the sheet by money only, sweeps, and writes it with figures.
 fn recounted(sheet: &[u8], out: &mut [u8]) -> Result<usize, Refusal>
-    ensures { λ r. ⌜ elim r [ Ok n ↦ n ≤ length (now (out .entry)) | Err e ↦ now (out .exit) ≡ now (out .entry) ] ⌝ }
+    ensures { λ r. ⌜ Recounted (now (sheet .entry)) (now (out .entry)) r (now (out .exit)) ⌝ }
 {
     let mut book = Book::new(Money);
     book.open(sheet)?;
@@ -42,7 +41,8 @@ fn recounted(sheet: &[u8], out: &mut [u8]) -> Result<usize, Refusal>
 /// What the program prints for a sheet, into `out`: the sheet with figures, or the line of the refusal. Returns how
 /// many bytes that is.
 pub fn recount(sheet: &[u8], out: &mut [u8; MAX_SHEET]) -> usize
-    ensures { λ r. ⌜ r ≤ length (now (out .exit)) ⌝ }
+    ensures printed { λ r. ⌜ Printed (now (sheet .entry)) (now (out .entry)) r (now (out .exit)) ⌝ }
+    ensures within { λ r. ⌜ r ≤ length (now (out .exit)) ⌝ }
 {
     match recounted(sheet, out) {
         Ok(length) => length,
