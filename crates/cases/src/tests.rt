@@ -87,32 +87,33 @@ fn swept_one_by_one() -> Result<(), Fail> {
     let mut book = Book::new(Money);
     check(book.open(TWO_GRADES).is_ok())?;
     for lines in TWO_GRADES_SWEPT {
-        let mut out = [0; 300];
-        let length = book.write(true, TWO_GRADES, &mut out).ok().ok_or("not written")?;
-        check(out[..length].ends_with(lines))?;
-        check(book.sweep(1).is_ok())?;
+        check(ends(&book, lines) && book.sweep(1).is_ok())?;
     }
-    let count = book.sweep(RECOUNT_SWEEPS).ok().ok_or("not swept")?;
-    check(count.settled && count.runs == 4)
+    match book.sweep(RECOUNT_SWEEPS) {
+        Ok(count) => check(count.settled && count.runs == 4),
+        Err(_) => Err(Fail::new("the sweeps are refused")),
+    }
 }
 
 #[test]
 fn calls_refused() -> Result<(), Fail> {
-    let mut out = [0; 300];
     let mut book = Book::new(Money);
-    let refusal = book.sweep(1).err().ok_or("swept without a table")?;
-    check(tells(&refusal, 12, 4, (0, 0)))?;
-    let refusal = book.write(true, TWO_GRADES, &mut out).err().ok_or("written without a table")?;
-    check(tells(&refusal, 12, 4, (0, 0)))?;
+    check(refused(book.sweep(1), 12, 4, (0, 0)))?;
     check(book.open(TWO_GRADES).is_ok())?;
-    let refusal = book.sweep(0).err().ok_or("swept no time")?;
-    check(tells(&refusal, 15, 4, (0, 0)))?;
-    let refusal = book.sweep(MAX_SWEEPS + 1).err().ok_or("swept too often")?;
-    check(tells(&refusal, 15, 4, (0, 0)))?;
-    let refusal = book.write(false, MACHINE, &mut out).err().ok_or("written with labels of another shop")?;
-    check(tells(&refusal, 21, 4, (0, 0)))?;
-    let length = TWO_GRADES.len();
-    let refusal = book.write(false, TWO_GRADES, &mut out[..100]).err().ok_or("written past the end")?;
-    check(tells(&refusal, 22, 4, (length, 0)))?;
-    check(out == [0; 300])
+    check(refused(book.open(LOOSE_ROWS), 5, 2, (2, 0)))?;
+    check(refused(book.sweep(0), 15, 4, (0, 0)))?;
+    check(refused(book.sweep(MAX_SWEEPS + 1), 15, 4, (0, 0)))?;
+    check(ends(&book, TWO_GRADES_SWEPT[0]))
+}
+
+#[test]
+fn writings_refused() -> Result<(), Fail> {
+    let mut short = [0; 100];
+    let mut book = Book::new(Money);
+    check(refused(book.write(true, TWO_GRADES, &mut short), 12, 4, (0, 0)))?;
+    check(book.open(TWO_GRADES).is_ok())?;
+    check(refused(book.write(false, MACHINE, &mut short), 21, 4, (0, 0)))?;
+    check(refused(book.write(false, b"sheet\n", &mut short), 21, 4, (1, 0)))?;
+    check(refused(book.write(false, TWO_GRADES, &mut short), 22, 4, (TWO_GRADES.len(), 0)))?;
+    check(short == [0; 100])
 }
