@@ -1,3 +1,7 @@
+ghost use mathlib.Core.Path.{_≡_};
+ghost use mathlib.Core.Bool.{true, false};
+ghost use Rattle.std.specs.declared.result.Result.the-variants.{Ok, Err};
+ghost use Rattle.book.specs.Refusals.{numberOf, layerOf, placesOf};
 use crate::shops::TWO_GRADES;
 use book::Book;
 use book::MAX_SHEET;
@@ -21,7 +25,9 @@ pub(crate) fn begins(sheet: &[u8], expected: &[u8]) -> bool {
 }
 
 /// Whether a call is refused with this number and layer and these places.
-pub(crate) fn refused<T: Drop>(answer: Result<T, Refusal>, number: u32, layer: u32, places: (usize, usize)) -> bool {
+pub(crate) fn refused<T: Drop>(answer: Result<T, Refusal>, number: u32, layer: u32, places: (usize, usize)) -> bool
+    ensures { λ r. ⌜ elim answer [ Ok _ ↦ r ≡ false | Err e ↦ r ≡ true → (numberOf e ≡ number) × ((layerOf e ≡ layer) × (placesOf e ≡ places)) ] ⌝ }
+{
     match answer {
         Ok(_) => false,
         Err(refusal) => refusal.number() == number && refusal.layer() == layer && refusal.places() == places,

@@ -44,9 +44,9 @@ fn machine_bounded() -> Result<(), Fail> {
 
 /// Passes if each change to the sheet makes a recount print its answer and nothing more.
 fn each_answered(heap: Global, sheet: &[u8], edits: &[Edit]) -> Result<(), Fail> {
-    for edit in edits {
+    for (k, edit) in edits.iter().enumerate() {
         let text = changed(heap, sheet, edit)?;
-        check(answers(&text, edit.answer))?;
+        check(answers(&text, edit.answer)).note(format_args!("edit {k} of its table, from 0"))?;
     }
     Ok(())
 }
