@@ -53,9 +53,8 @@ fn each_answered(heap: Global, sheet: &[u8], edits: &[Edit]) -> Result<(), Fail>
 
 #[test]
 fn text_refused(rt: LibcRuntime) -> Result<(), Fail> {
-    let long = [b'\n'; 32_769];
-    check(answers(&long, b"no 1 1 0 0\n"))?;
-    check(answers(&long[..32_768], b"no 2 1 1 0\n"))?;
+    check(answers(&[b'\n'; 32_769], b"no 1 1 0 0\n"))?;
+    check(answers(&[b'\n'; MAX_SHEET], b"no 2 1 1 0\n"))?;
     check(answers(b"", b"no 2 1 1 0\n"))?;
     each_answered(rt.alloc(), TWO_GRADES, &FORM)?;
     each_answered(rt.alloc(), TWO_GRADES, &RANGE)
