@@ -44,18 +44,17 @@ fn machine_bounded() -> Result<(), Fail> {
 
 /// Passes if each change to the sheet makes a recount print its answer and nothing more.
 fn each_answered(heap: Global, sheet: &[u8], edits: &[Edit]) -> Result<(), Fail> {
-    for edit in edits {
+    for (k, edit) in edits.iter().enumerate() {
         let text = changed(heap, sheet, edit)?;
-        check(answers(&text, edit.answer))?;
+        check(answers(&text, edit.answer)).note(format_args!("edit {k} of its table, from 0"))?;
     }
     Ok(())
 }
 
 #[test]
 fn text_refused(rt: LibcRuntime) -> Result<(), Fail> {
-    let long = [b'\n'; 32_769];
-    check(answers(&long, b"no 1 1 0 0\n"))?;
-    check(answers(&long[..32_768], b"no 2 1 1 0\n"))?;
+    check(answers(&[b'\n'; 32_769], b"no 1 1 0 0\n"))?;
+    check(answers(&[b'\n'; MAX_SHEET], b"no 2 1 1 0\n"))?;
     check(answers(b"", b"no 2 1 1 0\n"))?;
     each_answered(rt.alloc(), TWO_GRADES, &FORM)?;
     each_answered(rt.alloc(), TWO_GRADES, &RANGE)
@@ -87,32 +86,33 @@ fn swept_one_by_one() -> Result<(), Fail> {
     let mut book = Book::new(Money);
     check(book.open(TWO_GRADES).is_ok())?;
     for lines in TWO_GRADES_SWEPT {
-        let mut out = [0; 300];
-        let length = book.write(true, TWO_GRADES, &mut out).ok().ok_or("not written")?;
-        check(out[..length].ends_with(lines))?;
-        check(book.sweep(1).is_ok())?;
+        check(ends(&book, lines) && book.sweep(1).is_ok())?;
     }
-    let count = book.sweep(RECOUNT_SWEEPS).ok().ok_or("not swept")?;
-    check(count.settled && count.runs == 4)
+    match book.sweep(RECOUNT_SWEEPS) {
+        Ok(count) => check(count.settled && count.runs == 4),
+        Err(_) => Err(Fail::new("the sweeps are refused")),
+    }
 }
 
 #[test]
 fn calls_refused() -> Result<(), Fail> {
-    let mut out = [0; 300];
     let mut book = Book::new(Money);
-    let refusal = book.sweep(1).err().ok_or("swept without a table")?;
-    check(tells(&refusal, 12, 4, (0, 0)))?;
-    let refusal = book.write(true, TWO_GRADES, &mut out).err().ok_or("written without a table")?;
-    check(tells(&refusal, 12, 4, (0, 0)))?;
+    check(refused(book.sweep(1), 12, 4, (0, 0)))?;
     check(book.open(TWO_GRADES).is_ok())?;
-    let refusal = book.sweep(0).err().ok_or("swept no time")?;
-    check(tells(&refusal, 15, 4, (0, 0)))?;
-    let refusal = book.sweep(MAX_SWEEPS + 1).err().ok_or("swept too often")?;
-    check(tells(&refusal, 15, 4, (0, 0)))?;
-    let refusal = book.write(false, MACHINE, &mut out).err().ok_or("written with labels of another shop")?;
-    check(tells(&refusal, 21, 4, (0, 0)))?;
-    let length = TWO_GRADES.len();
-    let refusal = book.write(false, TWO_GRADES, &mut out[..100]).err().ok_or("written past the end")?;
-    check(tells(&refusal, 22, 4, (length, 0)))?;
-    check(out == [0; 300])
+    check(refused(book.open(LOOSE_ROWS), 5, 2, (2, 0)))?;
+    check(refused(book.sweep(0), 15, 4, (0, 0)))?;
+    check(refused(book.sweep(MAX_SWEEPS + 1), 15, 4, (0, 0)))?;
+    check(ends(&book, TWO_GRADES_SWEPT[0]))
+}
+
+#[test]
+fn writings_refused() -> Result<(), Fail> {
+    let mut short = [0; 100];
+    let mut book = Book::new(Money);
+    check(refused(book.write(true, TWO_GRADES, &mut short), 12, 4, (0, 0)))?;
+    check(book.open(TWO_GRADES).is_ok())?;
+    check(refused(book.write(false, MACHINE, &mut short), 21, 4, (0, 0)))?;
+    check(refused(book.write(false, b"sheet\n", &mut short), 21, 4, (1, 0)))?;
+    check(refused(book.write(false, TWO_GRADES, &mut short), 22, 4, (TWO_GRADES.len(), 0)))?;
+    check(short == [0; 100])
 }
