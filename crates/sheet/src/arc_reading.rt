@@ -49,7 +49,7 @@ fn arc_line(
 }
 
 /// The lines of the arcs, from the place `at` on: the arcs, and the place after them.
-pub fn read_arcs(
+pub(crate) fn read_arcs(
     sheet: &[u8],
     at: usize,
     header: &Header,

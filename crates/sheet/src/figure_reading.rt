@@ -64,7 +64,7 @@ fn figure_line(
 }
 
 /// The figure lines, from the place `at` on, where the header says that there are any; and the place after them.
-pub fn read_figures(
+pub(crate) fn read_figures(
     sheet: &[u8],
     at: usize,
     header: &Header,

@@ -42,7 +42,7 @@ fn grade_line(
 }
 
 /// The lines of the grades, from the place `at` on: their first rows, where their labels lie, and the place after them.
-pub fn read_grades(
+pub(crate) fn read_grades(
     sheet: &[u8],
     at: usize,
     header: &Header,

@@ -43,7 +43,7 @@ fn header_of(line: &HeaderLine) -> Option<Header>
 }
 
 /// The first line, and the place after it.
-pub fn read_header(sheet: &[u8]) -> Result<(Header, usize), TextFault>
+pub(crate) fn read_header(sheet: &[u8]) -> Result<(Header, usize), TextFault>
     ensures { λ r. ⌜ elim r [ Ok p ↦ HeaderRead (now (sheet .entry)) (p .0 .grades) (p .0 .rows) (p .0 .arcs) (p .0 .total) (p .0 .numerator) (p .0 .denominator) (p .0 .fineness) (cond (p .0 .figured) (p .0 .grades) 0) (p .1) | Err e ↦ FaultIn 1 1 e ] ⌝ }
 {
     let Some((line, next)) = header_at(sheet, 0) else {

@@ -15,7 +15,7 @@ use crate::lines::Line;
 use crate::lines::RowLine;
 
 /// The header line at the place `at`, and the place after it.
-pub fn header_at(sheet: &[u8], at: usize) -> Option<(HeaderLine, usize)>
+pub(crate) fn header_at(sheet: &[u8], at: usize) -> Option<(HeaderLine, usize)>
     ensures reads { λ r. ⌜ Reads GoodHeader (λ x. lineText (header x)) (drop at (now (sheet .entry))) (seenFrom headerOf (now (sheet .entry)) r) ⌝ }
     ensures place { λ r. ⌜ Cases r (Unit {0}) (λ p. (at < p .1) × (p .1 ≤ length (now (sheet .entry)))) ⌝ }
 {
@@ -29,7 +29,7 @@ pub fn header_at(sheet: &[u8], at: usize) -> Option<(HeaderLine, usize)>
 }
 
 /// The grade line at the place `at`, and the place after it.
-pub fn grade_at(sheet: &[u8], at: usize) -> Option<(GradeLine<'_>, usize)>
+pub(crate) fn grade_at(sheet: &[u8], at: usize) -> Option<(GradeLine<'_>, usize)>
     ensures reads { λ r. ⌜ Reads GoodGrade (λ x. lineText (grade x)) (drop at (now (sheet .entry))) (seenFrom gradeOf (now (sheet .entry)) r) ⌝ }
     ensures place { λ r. ⌜ Cases r (Unit {0}) (λ p. (at < p .1) × (p .1 ≤ length (now (sheet .entry))) × (length (now (p .0 .label)) + 1 + at ≤ p .1)) ⌝ }
 {
@@ -43,7 +43,7 @@ pub fn grade_at(sheet: &[u8], at: usize) -> Option<(GradeLine<'_>, usize)>
 }
 
 /// The row line at the place `at`, and the place after it.
-pub fn row_at(sheet: &[u8], at: usize) -> Option<(RowLine<'_>, usize)>
+pub(crate) fn row_at(sheet: &[u8], at: usize) -> Option<(RowLine<'_>, usize)>
     ensures reads { λ r. ⌜ Reads GoodRow (λ x. lineText (row x)) (drop at (now (sheet .entry))) (seenFrom rowOf (now (sheet .entry)) r) ⌝ }
     ensures place { λ r. ⌜ Cases r (Unit {0}) (λ p. (at < p .1) × (p .1 ≤ length (now (sheet .entry))) × (length (now (p .0 .label)) + 1 + at ≤ p .1)) ⌝ }
 {
@@ -57,7 +57,7 @@ pub fn row_at(sheet: &[u8], at: usize) -> Option<(RowLine<'_>, usize)>
 }
 
 /// The arc line at the place `at`, and the place after it.
-pub fn arc_at(sheet: &[u8], at: usize) -> Option<(ArcLine, usize)>
+pub(crate) fn arc_at(sheet: &[u8], at: usize) -> Option<(ArcLine, usize)>
     ensures reads { λ r. ⌜ Reads GoodArc (λ x. lineText (arc x)) (drop at (now (sheet .entry))) (seenFrom arcOf (now (sheet .entry)) r) ⌝ }
     ensures place { λ r. ⌜ Cases r (Unit {0}) (λ p. (at < p .1) × (p .1 ≤ length (now (sheet .entry)))) ⌝ }
 {
@@ -71,7 +71,7 @@ pub fn arc_at(sheet: &[u8], at: usize) -> Option<(ArcLine, usize)>
 }
 
 /// The figure line at the place `at`, and the place after it.
-pub fn figure_at(sheet: &[u8], at: usize) -> Option<(FigureLine, usize)>
+pub(crate) fn figure_at(sheet: &[u8], at: usize) -> Option<(FigureLine, usize)>
     ensures reads { λ r. ⌜ Reads GoodFigure (λ x. lineText (figure x)) (drop at (now (sheet .entry))) (seenFrom figureOf (now (sheet .entry)) r) ⌝ }
     ensures place { λ r. ⌜ Cases r (Unit {0}) (λ p. (at < p .1) × (p .1 ≤ length (now (sheet .entry)))) ⌝ }
 {
@@ -85,7 +85,7 @@ pub fn figure_at(sheet: &[u8], at: usize) -> Option<(FigureLine, usize)>
 }
 
 /// The place after the line `end` at the place `at`.
-pub fn end_at(sheet: &[u8], at: usize) -> Option<usize>
+pub(crate) fn end_at(sheet: &[u8], at: usize) -> Option<usize>
     ensures { λ r. ⌜ EndAt (now (sheet .entry)) at r ⌝ }
 {
     match line_at(sheet, at) {

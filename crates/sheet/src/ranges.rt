@@ -6,7 +6,7 @@ ghost use lib.IntN.{natAbs};
 ghost use Rattle.sheet.specs.Read.{CountOf};
 
 /// `z` as a count from `low` to `high`, where it is one.
-pub fn count(z: i64, low: usize, high: usize) -> Option<usize>
+pub(crate) fn count(z: i64, low: usize, high: usize) -> Option<usize>
     ensures { λ r. ⌜ CountOf z low high r ⌝ }
 {
     if z < 0 {
@@ -17,7 +17,7 @@ pub fn count(z: i64, low: usize, high: usize) -> Option<usize>
 }
 
 /// Whether `z` lies at most `most` from 0, on either side.
-pub fn near(z: i64, most: i64) -> bool
+pub(crate) fn near(z: i64, most: i64) -> bool
     ensures { λ r. ⌜ (T r → natAbs z ≤ natAbs most) × (r ≡ false → natAbs z ≤ natAbs most → ⊥) ⌝ }
 {
     z.unsigned_abs() <= most.unsigned_abs()

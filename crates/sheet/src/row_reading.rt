@@ -62,7 +62,7 @@ fn row_line(
 }
 
 /// The lines of the rows, from the place `at` on: the rows, where their labels lie, and the place after them.
-pub fn read_rows(
+pub(crate) fn read_rows(
     sheet: &[u8],
     at: usize,
     header: &Header,

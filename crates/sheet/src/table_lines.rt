@@ -17,7 +17,7 @@ use table::Figures;
 use table::Table;
 
 /// The label that lies there.
-pub fn part(sheet: &[u8], span: Span) -> &[u8]
+pub(crate) fn part(sheet: &[u8], span: Span) -> &[u8]
     requires { ⌜ SpanIn (length (now sheet)) span ⌝ }
     ensures { λ r. ⌜ now r ≡ partOf (now (sheet .entry)) span ⌝ }
 {
@@ -26,7 +26,7 @@ pub fn part(sheet: &[u8], span: Span) -> &[u8]
 }
 
 /// The first line, with the number of figure lines.
-pub fn header_line(table: &Table, figures: usize) -> Line<'static>
+pub(crate) fn header_line(table: &Table, figures: usize) -> Line<'static>
     requires { ⌜ figures ≤ 32 ⌝ }
     ensures { λ r. ⌜ entryOf r ≡ headerEntry (now (table .entry)) figures ⌝ }
 {
@@ -43,7 +43,7 @@ pub fn header_line(table: &Table, figures: usize) -> Line<'static>
 }
 
 /// The line of the grade `i + 1`.
-pub fn grade_line<'a>(table: &Table, i: usize, label: &'a [u8]) -> Line<'a>
+pub(crate) fn grade_line<'a>(table: &Table, i: usize, label: &'a [u8]) -> Line<'a>
     requires { ⌜ i < now table .grades ⌝ }
     ensures { λ r. ⌜ entryOf r ≡ gradeEntry (now (table .entry) .«first_row») (now (label .entry)) i ⌝ }
 {
@@ -55,7 +55,7 @@ pub fn grade_line<'a>(table: &Table, i: usize, label: &'a [u8]) -> Line<'a>
 }
 
 /// The line of the row `i + 1`.
-pub fn row_line<'a>(table: &Table, i: usize, label: &'a [u8]) -> Line<'a>
+pub(crate) fn row_line<'a>(table: &Table, i: usize, label: &'a [u8]) -> Line<'a>
     requires { ⌜ i < now table .rows ⌝ }
     ensures { λ r. ⌜ entryOf r ≡ rowEntry (now (table .entry) .row) (now (label .entry)) i ⌝ }
 {
@@ -71,7 +71,7 @@ pub fn row_line<'a>(table: &Table, i: usize, label: &'a [u8]) -> Line<'a>
 }
 
 /// The line of the arc `i + 1`.
-pub fn arc_line(table: &Table, i: usize) -> Line<'static>
+pub(crate) fn arc_line(table: &Table, i: usize) -> Line<'static>
     requires { ⌜ i < now table .arcs ⌝ }
     ensures { λ r. ⌜ entryOf r ≡ arcEntry (now (table .entry) .arc) i ⌝ }
 {
@@ -85,7 +85,7 @@ pub fn arc_line(table: &Table, i: usize) -> Line<'static>
 }
 
 /// The figure line of the grade `i + 1`.
-pub fn figure_line(figures: &Figures, i: usize) -> Line<'static>
+pub(crate) fn figure_line(figures: &Figures, i: usize) -> Line<'static>
     requires { ⌜ i < 32 ⌝ ∗ ⌜ getD (now figures .row) i 0 ≤ 96 ⌝ }
     ensures { λ r. ⌜ entryOf r ≡ figureEntry (now (figures .entry) .row) (now (figures .entry) .floor .at) (now (figures .entry) .ceiling .at) i ⌝ }
 {
@@ -102,7 +102,7 @@ pub fn figure_line(figures: &Figures, i: usize) -> Line<'static>
 }
 
 /// The last line.
-pub fn end_line() -> Line<'static>
+pub(crate) fn end_line() -> Line<'static>
     ensures { λ r. ⌜ entryOf r ≡ end ⌝ }
 {
     Line::End

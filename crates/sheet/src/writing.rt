@@ -145,7 +145,7 @@ fn line_of(fault: TextFault) -> usize
 
 /// Writes the table, with figures where they are given, as a sheet with the labels of the sheet `old`, and returns the
 /// sheet's length. What `out` holds beyond that stays.
-pub fn write(
+pub(crate) fn write(
     out: &mut [u8],
     table: &Table,
     figures: &Option<Figures>,
