@@ -22,19 +22,19 @@ neither None at later e = (refl, e)
 
 -- each search of the check has found nothing
 module _ (t : Table) (e : isSome (tableFault t) ≡ false) where
-  from-rows : (lowest (mispointed (rowPointers t)) (t .rows) ≡ None) × (isSome (looseRowFault t) ≡ false)
+  pub from-rows : (lowest (mispointed (rowPointers t)) (t .rows) ≡ None) × (isSome (looseRowFault t) ≡ false)
   from-rows = neither (lowest (mispointed (rowPointers t)) (t .rows)) RowPointers (looseRowFault t) e
 
-  from-loose-rows : (lowest (loose (reachedRows t)) (t .rows) ≡ None) × (isSome (arcPointerFault t) ≡ false)
+  pub from-loose-rows : (lowest (loose (reachedRows t)) (t .rows) ≡ None) × (isSome (arcPointerFault t) ≡ false)
   from-loose-rows = neither (lowest (loose (reachedRows t)) (t .rows)) LooseRow (arcPointerFault t) (from-rows .1)
 
-  from-arcs : (lowest (mispointed (arcPointers t)) (t .arcs) ≡ None) × (isSome (looseArcFault t) ≡ false)
+  pub from-arcs : (lowest (mispointed (arcPointers t)) (t .arcs) ≡ None) × (isSome (looseArcFault t) ≡ false)
   from-arcs = neither (lowest (mispointed (arcPointers t)) (t .arcs)) ArcPointers (looseArcFault t) (from-loose-rows .1)
 
-  from-loose-arcs : (lowest (loose (reachedArcs t)) (t .arcs) ≡ None) × (isSome (weightFault t) ≡ false)
+  pub from-loose-arcs : (lowest (loose (reachedArcs t)) (t .arcs) ≡ None) × (isSome (weightFault t) ≡ false)
   from-loose-arcs = neither (lowest (loose (reachedArcs t)) (t .arcs)) LooseArc (weightFault t) (from-arcs .1)
 
-  from-weights : lowest (unbalanced t) (t .rows) ≡ None
+  pub from-weights : lowest (unbalanced t) (t .rows) ≡ None
   from-weights = neither (lowest (unbalanced t) (t .rows)) Weights None (from-loose-arcs .1) .0
 
   -- the weights of each row's arcs sum to the total

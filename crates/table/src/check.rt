@@ -1,6 +1,8 @@
 ghost use mathlib.Core.Path.{_≡_};
 ghost use Rattle.table.specs.Faults.{tableFault};
 ghost use Rattle.table.specs.Checked.{Checked};
+ghost use Rattle.table.specs.Sound.{Sound};
+ghost use Rattle.std.specs.declared.result.Result.the-variants.{Ok, Err};
 use crate::fault::TableFault;
 use crate::pointers::mispointed_arc;
 use crate::pointers::mispointed_row;
@@ -32,9 +34,10 @@ pub fn first_fault(table: &Table) -> Option<TableFault>
     None
 }
 
-/// The table as one that has no fault, or its first fault.
+/// The table as one that has no fault, exactly where it is sound; or its first fault.
 pub fn check_table(table: &Table) -> Result<SoundTable, TableFault>
-    ensures { λ r. ⌜ Checked (now (table .entry)) r ⌝ }
+    ensures answer { λ r. ⌜ Checked (now (table .entry)) r ⌝ }
+    ensures sound { λ r. ⌜ elim r [ Ok _ ↦ Sound (now (table .entry)) | Err _ ↦ (Sound (now (table .entry)) → ⊥) ] ⌝ }
 {
     match first_fault(table) {
         Some(fault) => Err(fault),
