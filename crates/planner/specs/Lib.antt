@@ -1,3 +1,4 @@
 pub mod Choices
 pub mod Start
 pub mod Sweeps
+pub mod Policies
