@@ -93,8 +93,8 @@ pub fn write_field(out: &mut [u8], at: usize, z: i64, end: End) -> Option<usize>
 pub fn write_count(out: &mut [u8], at: usize, n: u64, end: End) -> Option<usize>
     ensures { λ r. ⌜ Writes (now (out .entry)) at (naturalText (byteOf end) n) r (now (out .exit)) ⌝ }
 {
-    let next = write_natural(out, at, n)?;
-    write_byte(out, next, end.byte())
+    let after = write_natural(out, at, n)?;
+    write_byte(out, after, end.byte())
 }
 
 /// Writes all of `bytes`.
