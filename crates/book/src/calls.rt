@@ -20,7 +20,7 @@ pub struct SweepCount {
 
 /// The page that a sheet opens to: its table with its figures, or with start figures where it has none.
 fn read_page<R: Ranking>(ranking: &R, text: &[u8]) -> Result<Page, Refusal>
-    ensures { Opens (ranks ranking.now) text.now result }
+    ensures { Opens (R.ranks ranking.now) text.now result }
 {
     let sheet = match read(text) {
         Ok(sheet) => sheet,
@@ -84,7 +84,7 @@ impl<R: Rounding> Book<R> {
     /// Sweeps n times, or up to the first sweep that changes no figure.
     pub fn sweep(&mut self, n: usize) -> Result<SweepCount, Refusal>
         ensures ranking { self.new.ranking ≡ self.old.ranking }
-        ensures page { SweptBook (R.Ranking.ranks self.old.ranking) (cheap self.old.ranking) (dear self.old.ranking) n self.old.page result self.new.page }
+        ensures page { SweptBook (R.Ranking.ranks self.old.ranking) (R.cheap self.old.ranking) (R.dear self.old.ranking) n self.old.page result self.new.page }
     {
         let Some(page) = self.page else {
             return Err(Refusal::NoTable);

@@ -1,4 +1,6 @@
 //! Count books: a shop's table, plan and figures, ruled for one ranking of costs.
+#![tactic(auto)]
+
 mod book;
 mod calls;
 mod limits;

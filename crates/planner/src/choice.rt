@@ -17,7 +17,7 @@ pub struct Choice {
 /// The cheaper of two choices; the first, if it is no dearer.
 fn cheaper_of<R: Ranking>(ranking: &R, best: Choice, next: Choice) -> Choice
     requires { (Modest best.cost) × (Modest next.cost) }
-    ensures { result ≡ cheaper_of (ranks ranking.now) best next }
+    ensures { result ≡ cheaper_of (R.ranks ranking.now) best next }
 {
     if takes_over(ranking, best.cost, next.cost) {
         next
@@ -34,10 +34,10 @@ pub fn cheapest_row<R: Ranking>(
     g: usize,
     figures: &Column,
 ) -> Option<Choice>
-    ensures is { result ≡ cheapest_row (ranks ranking.now) sound.now.table (figure_at figures.now.at) g }
+    ensures is { result ≡ cheapest_row (R.ranks ranking.now) sound.now.table (figure_at figures.now.at) g }
     ensures within { IfSome result (λ c. Sized (scaling sound.now.table * 10 ^ 10) c.cost) }
     ensures row { IfSome result (λ c. Within 1 sound.now.table.rows c.row) }
-    ensures cheapest { CheapestOf (ranks ranking.now) sound.now.table (figure_at figures.now.at) g result }
+    ensures cheapest { CheapestOf (R.ranks ranking.now) sound.now.table (figure_at figures.now.at) g result }
 {
     let table = &sound.table;
     if g == 0 || g > table.grades {

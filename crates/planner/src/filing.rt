@@ -18,7 +18,7 @@ fn dearer_floor<R: Ranking>(
     g: usize,
 ) -> Option<(i64, i64)>
     requires { Within 1 32 g }
-    ensures is { result ≡ dearer_floor (ranks ranking.now) (shown standing.now) (shown filed.now) g }
+    ensures is { result ≡ dearer_floor (R.ranks ranking.now) (shown standing.now) (shown filed.now) g }
     ensures within { IfSome result FigureIn }
 {
     let floor = filed.floor.at[g - 1];
@@ -37,7 +37,7 @@ fn cheaper_ceiling<R: Ranking>(
     g: usize,
 ) -> Option<Choice>
     requires { Within 1 32 g }
-    ensures is { result ≡ cheaper_choice (ranks ranking.now) (shown standing.now) (shown filed.now) g }
+    ensures is { result ≡ cheaper_choice (R.ranks ranking.now) (shown standing.now) (shown filed.now) g }
     ensures within { IfSome result (λ c. FigureIn c.cost) }
     ensures row { IfSome result (λ c. c.row ≡ plan_row filed.now.row g) }
 {
@@ -55,7 +55,7 @@ fn cheaper_ceiling<R: Ranking>(
 /// The floors of n grades, each the dearer of the standing and the filed one.
 fn nearer_floors<R: Ranking>(ranking: &R, standing: &Figures, filed: &Figures, n: usize) -> Column
     requires { n ≤ 32 }
-    ensures { result.at ≡ applied (dearer_floor (ranks ranking.now) (shown standing.now) (shown filed.now)) n standing.now.floor.at }
+    ensures { result.at ≡ applied (dearer_floor (R.ranks ranking.now) (shown standing.now) (shown filed.now)) n standing.now.floor.at }
 {
     let mut at = standing.floor.at;
     for i in 0..n {
@@ -74,7 +74,7 @@ fn nearer_floors<R: Ranking>(ranking: &R, standing: &Figures, filed: &Figures, n
 fn nearer_page<R: Ranking>(ranking: &R, standing: &Page, filed: &Page) -> Page
     requires { filed.now.sound ≡ standing.now.sound }
     ensures table { result.sound ≡ standing.now.sound }
-    ensures after { shown result.figures ≡ nearer_of (ranks ranking.now) (shown standing.now.figures) (shown filed.now.figures) standing.now.sound.table.grades }
+    ensures after { shown result.figures ≡ nearer_of (R.ranks ranking.now) (shown standing.now.figures) (shown filed.now.figures) standing.now.sound.table.grades }
 {
     let sound = standing.sound;
     let floor = nearer_floors(
@@ -110,9 +110,9 @@ pub fn take_filing<R: Ranking>(
     page: &Page,
     lines: &[FiledLine],
 ) -> Result<Page, FilingFault>
-    ensures answer { Taken (ranks ranking.now) page.now lines.now result }
-    ensures kept { FilingTells (ranks ranking.now) page.now.sound.table lines.now result }
-    ensures keeps { TakenKeeps (ranks ranking.now) page.now lines.now result }
+    ensures answer { Taken (R.ranks ranking.now) page.now lines.now result }
+    ensures kept { FilingTells (R.ranks ranking.now) page.now.sound.table lines.now result }
+    ensures keeps { TakenKeeps (R.ranks ranking.now) page.now lines.now result }
 {
     let filed = check_filing(ranking, &page.sound, lines)?;
     Ok(nearer_page(ranking, page, &filed))

@@ -19,7 +19,7 @@ fn eased_ceiling<R: Rounding>(
     ceilings: &Column,
 ) -> Option<(i64, i64)>
     requires { Within 1 sound.now.table.grades g }
-    ensures is { result ≡ eased (R.Ranking.ranks ranking.now) (dear ranking.now) sound.now.table rows.now (figure_at ceilings.now.at) g }
+    ensures is { result ≡ eased (R.Ranking.ranks ranking.now) (R.dear ranking.now) sound.now.table rows.now (figure_at ceilings.now.at) g }
     ensures within { IfSome result FigureIn }
 {
     let ahead = lookahead(sound, rows[g - 1], ceilings)?;
@@ -38,7 +38,7 @@ fn eased_ceilings<R: Rounding>(
     rows: &[usize; MAX_GRADES],
     ceilings: &Column,
 ) -> Column
-    ensures { result.at ≡ applied (eased (R.Ranking.ranks ranking.now) (dear ranking.now) sound.now.table rows.now (figure_at ceilings.now.at)) sound.now.table.grades ceilings.now.at }
+    ensures { result.at ≡ applied (eased (R.Ranking.ranks ranking.now) (R.dear ranking.now) sound.now.table rows.now (figure_at ceilings.now.at)) sound.now.table.grades ceilings.now.at }
 {
     let mut at = ceilings.at;
     for i in 0..sound.table.grades {
@@ -61,7 +61,7 @@ fn better_row<R: Rounding>(
     ceilings: &Column,
 ) -> Option<usize>
     requires { Within 1 sound.now.table.grades g }
-    ensures is { result ≡ given (R.Ranking.ranks ranking.now) (dear ranking.now) sound.now.table rows.now (figure_at ceilings.now.at) g }
+    ensures is { result ≡ given (R.Ranking.ranks ranking.now) (R.dear ranking.now) sound.now.table rows.now (figure_at ceilings.now.at) g }
     ensures row { IfSome result (Within 1 sound.now.table.rows) }
 {
     let kept = lookahead(sound, rows[g - 1], ceilings)?;
@@ -85,8 +85,8 @@ pub struct Round {
 /// then plan rows give way to cheaper ones over the new ceilings. Floors stay.
 pub fn improve_once<R: Rounding>(ranking: &R, page: &Page) -> Round
     ensures table { result.page.sound ≡ page.now.sound }
-    ensures after { shown result.page.figures ≡ round_of (R.Ranking.ranks ranking.now) (dear ranking.now) page.now.sound.table (shown page.now.figures) }
-    ensures gave_way { result.gave_way ≡ giving_way (R.Ranking.ranks ranking.now) (dear ranking.now) page.now.sound.table (shown page.now.figures) }
+    ensures after { shown result.page.figures ≡ round_of (R.Ranking.ranks ranking.now) (R.dear ranking.now) page.now.sound.table (shown page.now.figures) }
+    ensures gave_way { result.gave_way ≡ giving_way (R.Ranking.ranks ranking.now) (R.dear ranking.now) page.now.sound.table (shown page.now.figures) }
     ensures keeps { Keeping (R.Ranking.ranks ranking.now) page.now.sound.table (shown page.now.figures) (shown result.page.figures) }
 {
     let sound = page.sound;
@@ -125,7 +125,7 @@ pub struct Improved {
 /// Runs n improvement rounds.
 pub fn improve_rounds<R: Rounding>(ranking: &R, page: &Page, n: u32) -> Improved
     ensures table { result.page.sound ≡ page.now.sound }
-    ensures after { (shown result.page.figures, result.gave_way) ≡ rounds (R.Ranking.ranks ranking.now) (dear ranking.now) page.now.sound.table n (shown page.now.figures) }
+    ensures after { (shown result.page.figures, result.gave_way) ≡ rounds (R.Ranking.ranks ranking.now) (R.dear ranking.now) page.now.sound.table n (shown page.now.figures) }
     ensures keeps { Keeping (R.Ranking.ranks ranking.now) page.now.sound.table (shown page.now.figures) (shown result.page.figures) }
 {
     let mut page = *page;

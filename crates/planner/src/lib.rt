@@ -1,5 +1,7 @@
 //! Plans for a sound table: figures to start from, sweeps that draw floors and ceilings together, and rounds that better
 //! plan rows.
+#![tactic(auto)]
+
 mod bounds;
 mod choice;
 mod filing;

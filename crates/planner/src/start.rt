@@ -9,7 +9,7 @@ use table::{Column, Figures, MAX_GRADES, Page, SoundTable, Table};
 
 /// The cheapest of zero and all row costs; among equals zero, then the lowest row.
 fn cheapest_cost<R: Ranking>(ranking: &R, table: &Table) -> (i64, i64)
-    ensures is { result ≡ cheapest_cost (ranks ranking.now) table.now }
+    ensures is { result ≡ cheapest_cost (R.ranks ranking.now) table.now }
     ensures within { Sized 100000 result }
 {
     let mut best = (0, 0);
@@ -23,7 +23,7 @@ fn cheapest_cost<R: Ranking>(ranking: &R, table: &Table) -> (i64, i64)
 
 /// The dearest of zero and all row costs; among equals zero, then the lowest row.
 fn dearest_cost<R: Ranking>(ranking: &R, table: &Table) -> (i64, i64)
-    ensures is { result ≡ dearest_cost (ranks ranking.now) table.now }
+    ensures is { result ≡ dearest_cost (R.ranks ranking.now) table.now }
     ensures within { Sized 100000 result }
 {
     let mut worst = (0, 0);
@@ -39,9 +39,9 @@ fn dearest_cost<R: Ranking>(ranking: &R, table: &Table) -> (i64, i64)
 /// first row.
 pub fn start_page<R: Ranking>(ranking: &R, sound: &SoundTable) -> Page
     ensures table { result.sound ≡ sound.now }
-    ensures start { Start (ranks ranking.now) result }
-    ensures extremes { Extremes (ranks ranking.now) sound.now.table }
-    ensures keeps { ShownKept (ranks ranking.now) sound.now.table (shown result.figures) }
+    ensures start { Start (R.ranks ranking.now) result }
+    ensures extremes { Extremes (R.ranks ranking.now) sound.now.table }
+    ensures keeps { ShownKept (R.ranks ranking.now) sound.now.table (shown result.figures) }
 {
     let table = &sound.table;
     let unit = table.fineness * table.denominator;

@@ -23,7 +23,7 @@ fn raised_floor<R: Rounding>(
     floors: &Column,
 ) -> Option<(i64, i64)>
     requires { Within 1 sound.now.table.grades g }
-    ensures is { result ≡ raised (R.Ranking.ranks ranking.now) (cheap ranking.now) (dear ranking.now) sound.now.table (figure_at floors.now.at) g }
+    ensures is { result ≡ raised (R.Ranking.ranks ranking.now) (R.cheap ranking.now) (R.dear ranking.now) sound.now.table (figure_at floors.now.at) g }
     ensures within { IfSome result FigureIn }
 {
     let best = cheapest_row(ranking, sound, g, floors)?;
@@ -43,7 +43,7 @@ fn lowered_ceiling<R: Rounding>(
     ceilings: &Column,
 ) -> Option<Choice>
     requires { Within 1 sound.now.table.grades g }
-    ensures is { result ≡ lowered (R.Ranking.ranks ranking.now) (cheap ranking.now) (dear ranking.now) sound.now.table (figure_at ceilings.now.at) g }
+    ensures is { result ≡ lowered (R.Ranking.ranks ranking.now) (R.cheap ranking.now) (R.dear ranking.now) sound.now.table (figure_at ceilings.now.at) g }
     ensures within { IfSome result (λ c. FigureIn c.cost) }
     ensures row { IfSome result (λ c. Within 1 sound.now.table.rows c.row) }
 {
@@ -61,8 +61,8 @@ fn lowered_ceiling<R: Rounding>(
 
 /// All floors after a sweep, and whether some floor changed.
 fn swept_floors<R: Rounding>(ranking: &R, sound: &SoundTable, floors: &Column) -> (Column, bool)
-    ensures after { result.0.at ≡ applied (raised (R.Ranking.ranks ranking.now) (cheap ranking.now) (dear ranking.now) sound.now.table (figure_at floors.now.at)) sound.now.table.grades floors.now.at }
-    ensures moved { result.1 ≡ floors_move (R.Ranking.ranks ranking.now) (cheap ranking.now) (dear ranking.now) sound.now.table floors.now.at sound.now.table.grades }
+    ensures after { result.0.at ≡ applied (raised (R.Ranking.ranks ranking.now) (R.cheap ranking.now) (R.dear ranking.now) sound.now.table (figure_at floors.now.at)) sound.now.table.grades floors.now.at }
+    ensures moved { result.1 ≡ floors_move (R.Ranking.ranks ranking.now) (R.cheap ranking.now) (R.dear ranking.now) sound.now.table floors.now.at sound.now.table.grades }
 {
     let mut at = floors.at;
     let mut moved = false;
@@ -89,8 +89,8 @@ pub struct Sweep {
 /// One sweep: each new figure is reckoned from the figures before it, and none from another new one.
 pub fn sweep_once<R: Rounding>(ranking: &R, page: &Page) -> Sweep
     ensures table { result.page.sound ≡ page.now.sound }
-    ensures after { shown result.page.figures ≡ sweep_of (R.Ranking.ranks ranking.now) (cheap ranking.now) (dear ranking.now) page.now.sound.table (shown page.now.figures) }
-    ensures moved { result.moved ≡ moves (R.Ranking.ranks ranking.now) (cheap ranking.now) (dear ranking.now) page.now.sound.table (shown page.now.figures) }
+    ensures after { shown result.page.figures ≡ sweep_of (R.Ranking.ranks ranking.now) (R.cheap ranking.now) (R.dear ranking.now) page.now.sound.table (shown page.now.figures) }
+    ensures moved { result.moved ≡ moves (R.Ranking.ranks ranking.now) (R.cheap ranking.now) (R.dear ranking.now) page.now.sound.table (shown page.now.figures) }
     ensures keeps { Keeping (R.Ranking.ranks ranking.now) page.now.sound.table (shown page.now.figures) (shown result.page.figures) }
 {
     let sound = page.sound;
@@ -133,7 +133,7 @@ pub struct Swept {
 /// Sweeps n times, or up to the first sweep that changes no floor and no ceiling.
 pub fn sweep_up_to<R: Rounding>(ranking: &R, page: &Page, n: usize) -> Swept
     ensures table { result.page.sound ≡ page.now.sound }
-    ensures after { (shown result.page.figures, (result.runs, result.settled)) ≡ sweeps (R.Ranking.ranks ranking.now) (cheap ranking.now) (dear ranking.now) page.now.sound.table n (shown page.now.figures) }
+    ensures after { (shown result.page.figures, (result.runs, result.settled)) ≡ sweeps (R.Ranking.ranks ranking.now) (R.cheap ranking.now) (R.dear ranking.now) page.now.sound.table n (shown page.now.figures) }
     ensures keeps { Keeping (R.Ranking.ranks ranking.now) page.now.sound.table (shown page.now.figures) (shown result.page.figures) }
 {
     let mut page = *page;

@@ -8,7 +8,7 @@ use crate::ranking::Ranking;
 // Whether a is dearer than b.
 pub fn dearer<R: Ranking>(ranking: &R, a: (i64, i64), b: (i64, i64)) -> bool
     requires { (Modest a) × (Modest b) }
-    ensures { result ≡ is_dearer (ranks ranking.now) a b }
+    ensures { result ≡ is_dearer (R.ranks ranking.now) a b }
 {
     !ranking.no_dearer(a, b)
 }
@@ -16,7 +16,7 @@ pub fn dearer<R: Ranking>(ranking: &R, a: (i64, i64), b: (i64, i64)) -> bool
 // Whether a is cheaper than b.
 pub fn cheaper<R: Ranking>(ranking: &R, a: (i64, i64), b: (i64, i64)) -> bool
     requires { (Modest a) × (Modest b) }
-    ensures { result ≡ is_cheaper (ranks ranking.now) a b }
+    ensures { result ≡ is_cheaper (R.ranks ranking.now) a b }
 {
     dearer(ranking, b, a)
 }
@@ -25,7 +25,7 @@ pub fn cheaper<R: Ranking>(ranking: &R, a: (i64, i64), b: (i64, i64)) -> bool
 // equals stays.
 pub fn takes_over<R: Ranking>(ranking: &R, best: (i64, i64), next: (i64, i64)) -> bool
     requires { (Modest best) × (Modest next) }
-    ensures { result ≡ is_cheaper (ranks ranking.now) next best }
+    ensures { result ≡ is_cheaper (R.ranks ranking.now) next best }
 {
     cheaper(ranking, next, best)
 }
@@ -33,7 +33,7 @@ pub fn takes_over<R: Ranking>(ranking: &R, best: (i64, i64), next: (i64, i64)) -
 // The place of the first cheapest of the costs, if there are any.
 pub fn first_cheapest<R: Ranking>(ranking: &R, costs: &[(i64, i64)]) -> Option<usize>
     requires { AllModest costs.now }
-    ensures { Chosen (ranks ranking.now) costs.now result }
+    ensures { Chosen (R.ranks ranking.now) costs.now result }
 {
     if costs.is_empty() {
         return None;

@@ -3,6 +3,8 @@
 // A cost is `(i64, i64)`: money in cents, time in minutes. A `Ranking` says which of two costs is no dearer, and a
 // `Rounding` also divides a cost by a number. What is built on this crate is built for every ranking that keeps the laws
 // of these traits.
+#![tactic(auto)]
+
 mod choice;
 mod costs;
 mod division;

@@ -1,4 +1,6 @@
 //! Reads a sheet from standard input, and writes it with figures, or the line of its refusal, to standard output.
+#![tactic(auto)]
+
 ghost use Rattle.std.specs.Prelude.{◌≤◌, length, IfOk};
 
 use book::{MAX_SHEET, recount};

@@ -1,4 +1,6 @@
 //! Sheets: a table as text, with or without figures, read and written.
+#![tactic(auto)]
+
 
 mod arc_reading;
 mod figure_reading;

@@ -84,7 +84,7 @@ fn filed_page<R: Ranking>(
     sound: &SoundTable,
     lines: &[FiledLine],
 ) -> Result<Page, FilingFault>
-    ensures { Filed (ranks ranking.now) sound.now lines.now result }
+    ensures { Filed (R.ranks ranking.now) sound.now lines.now result }
 {
     if lines.len() != sound.table.grades {
         return Err(FilingFault::Lines);
@@ -130,8 +130,8 @@ pub fn check_filing<R: Ranking>(
     sound: &SoundTable,
     lines: &[FiledLine],
 ) -> Result<Page, FilingFault>
-    ensures answer { Filed (ranks ranking.now) sound.now lines.now result }
-    ensures kept { FilingTells (ranks ranking.now) sound.now.table lines.now result }
+    ensures answer { Filed (R.ranks ranking.now) sound.now lines.now result }
+    ensures kept { FilingTells (R.ranks ranking.now) sound.now.table lines.now result }
 {
     filed_page(ranking, sound, lines)
 }

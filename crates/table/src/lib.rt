@@ -1,4 +1,6 @@
 //! One shop's table, its check, and the figures that a plan is shown with.
+#![tactic(auto)]
+
 mod ahead;
 mod check;
 mod column;

@@ -41,7 +41,7 @@ fn keeps_floor<R: Ranking>(
     k: usize,
 ) -> bool
     requires { Within 1 sound.now.table.grades g }
-    ensures { result ≡ keeps_floor (ranks ranking.now) sound.now.table (figure_at floors.now.at) g (lookahead_of sound.now.table k (figure_at floors.now.at)) }
+    ensures { result ≡ keeps_floor (R.ranks ranking.now) sound.now.table (figure_at floors.now.at) g (lookahead_of sound.now.table k (figure_at floors.now.at)) }
 {
     match lookahead(sound, k, floors) {
         Some(x) => ranking.no_dearer(scaled_figure(sound, g, floors), x),
@@ -58,7 +58,7 @@ fn keeps_ceiling<R: Ranking>(
     k: usize,
 ) -> bool
     requires { Within 1 sound.now.table.grades g }
-    ensures { result ≡ keeps_ceiling (ranks ranking.now) sound.now.table (figure_at ceilings.now.at) g (lookahead_of sound.now.table k (figure_at ceilings.now.at)) }
+    ensures { result ≡ keeps_ceiling (R.ranks ranking.now) sound.now.table (figure_at ceilings.now.at) g (lookahead_of sound.now.table k (figure_at ceilings.now.at)) }
 {
     match lookahead(sound, k, ceilings) {
         Some(x) => ranking.no_dearer(x, scaled_figure(sound, g, ceilings)),
@@ -84,7 +84,7 @@ pub(crate) fn first_broken_floor<R: Ranking>(
     sound: &SoundTable,
     floors: &Column,
 ) -> Option<(usize, usize)>
-    ensures { result ≡ first_floor (ranks ranking.now) sound.now.table floors.now.at }
+    ensures { result ≡ first_floor (R.ranks ranking.now) sound.now.table floors.now.at }
 {
     let table = &sound.table;
     let broken = 'check: {
@@ -112,7 +112,7 @@ pub(crate) fn first_broken_ceiling<R: Ranking>(
     rows: &[usize; MAX_GRADES],
     ceilings: &Column,
 ) -> Option<(usize, usize)>
-    ensures { result ≡ first_ceiling (ranks ranking.now) sound.now.table rows.now ceilings.now.at }
+    ensures { result ≡ first_ceiling (R.ranks ranking.now) sound.now.table rows.now ceilings.now.at }
 {
     for i in 0..sound.table.grades {
         if !keeps_ceiling(ranking, sound, ceilings, i + 1, rows[i]) {
@@ -128,7 +128,7 @@ fn broken_rule<R: Ranking>(
     sound: &SoundTable,
     figures: &Figures,
 ) -> Option<FiguresFault>
-    ensures { result ≡ figures_fault (ranks ranking.now) sound.now.table figures.now }
+    ensures { result ≡ figures_fault (R.ranks ranking.now) sound.now.table figures.now }
 {
     if let Some((grade, row)) = first_stray(&sound.table, &figures.row) {
         return Some(FiguresFault::PlanRow { grade, row });
@@ -153,8 +153,8 @@ pub fn first_broken<R: Ranking>(
     sound: &SoundTable,
     figures: &Figures,
 ) -> Option<FiguresFault>
-    ensures is { result ≡ figures_fault (ranks ranking.now) sound.now.table figures.now }
-    ensures kept { Tells (ranks ranking.now) sound.now.table figures.now result }
+    ensures is { result ≡ figures_fault (R.ranks ranking.now) sound.now.table figures.now }
+    ensures kept { Tells (R.ranks ranking.now) sound.now.table figures.now result }
 {
     broken_rule(ranking, sound, figures)
 }

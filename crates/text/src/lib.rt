@@ -1,6 +1,8 @@
 //! Numbers and labels, read from bytes and written to bytes.
 //!
 //! A field's text has the byte that ends it as its last: so no field's text is the front of another's.
+#![tactic(auto)]
+
 
 mod end;
 mod limits;

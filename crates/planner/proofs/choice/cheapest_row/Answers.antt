@@ -35,7 +35,7 @@ loop-turn-preserved g c =
     let t = c.args.sound.now.table in
     let le = g.R.Ranking.ranks c.args.ranking.now in
     let w = figure_at c.args.figures.now.at in
-    let turn = c.loop-turn.-turn in
+    let turn = c.loop-turn._turn in
     let at = c.loop-turn.at in
     let best = c.loop-turn.best in
     let x = c.in-ok-cost-2.cost in
@@ -55,7 +55,7 @@ returns-then-at-eq0 g c =
     let s = c.args.ranking.now in
     let le = g.R.Ranking.ranks s in
     let w = figure_at c.args.figures.now.at in
-    let none = walk_end (next_row t) c.loop-turn.at (t.rows - c.loop-turn.-turn) (omega arith) in
+    let none = walk_end (next_row t) c.loop-turn.at (t.rows - c.loop-turn._turn) (omega arith) in
     let is = ap (λ l. Some (cheapest_from le t w c.loop-turn.best l)) (sym none) ∙ c.loop-turn.invariant.3 in
     record { is = is; within = c.loop-turn.invariant.2; row = c.loop-turn.invariant.1; cheapest = told (g.met.R.Ranking.ordered s) t w c.args.g (Some c.loop-turn.best) is }
 
@@ -65,6 +65,6 @@ returns-after-loop-turn g c =
     let s = c.args.ranking.now in
     let le = g.R.Ranking.ranks s in
     let w = figure_at c.args.figures.now.at in
-    let none = walk_spent (next_row t) c.loop-turn.at (t.rows - c.loop-turn.-turn) (omega arith) in
+    let none = walk_spent (next_row t) c.loop-turn.at (t.rows - c.loop-turn._turn) (omega arith) in
     let is = ap (λ l. Some (cheapest_from le t w c.loop-turn.best l)) (sym none) ∙ c.loop-turn.invariant.3 in
     record { is = is; within = c.loop-turn.invariant.2; row = c.loop-turn.invariant.1; cheapest = told (g.met.R.Ranking.ordered s) t w c.args.g (Some c.loop-turn.best) is }

@@ -8,5 +8,5 @@ use Rattle.planner.proofs.choice.cheapest_row.Given as goal
 
 abbrev pub invariant-loop-turn : goal.invariant-loop-turn
 invariant-loop-turn g l = (l.at ≤ l.sound.table.rows) × Between 1 l.sound.table.rows l.best.row × Within (scaling l.sound.table * 10 ^ 10) l.best.cost
-    × (Some (cheapest_from (g.R.Ranking.ranks l.ranking) l.sound.table (figure_at l.figures.at) l.best (walk (next_row l.sound.table) (l.sound.table.rows - l.-turn) l.at))
+    × (Some (cheapest_from (g.R.Ranking.ranks l.ranking) l.sound.table (figure_at l.figures.at) l.best (walk (next_row l.sound.table) (l.sound.table.rows - l._turn) l.at))
     ≡ cheapest_row (g.R.Ranking.ranks l.ranking) l.sound.table (figure_at l.figures.at) l.g)

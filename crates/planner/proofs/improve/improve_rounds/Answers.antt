@@ -20,7 +20,7 @@ loop-turn-preserved g c =
     let le = g.R.Ranking.ranks s in
     let dear = g.R.Rounding.dear s in
     let t = c.args.page.now.sound.table in
-    let turn = c.loop-turn.-turn in
+    let turn = c.loop-turn._turn in
     let n = c.args.n in
     let count = c.loop-turn.gave-way in
     let old = shown c.loop-turn.page.figures in
@@ -42,7 +42,7 @@ returns g c =
     let dear = g.R.Rounding.dear s in
     let t = p.sound.table in
     let here = shown c.loop-turn.page.figures in
-    let after = sym (rounds_spent le dear t here (c.args.n - c.loop-turn.-turn) c.loop-turn.gave-way (omega arith)) ∙ c.loop-turn.invariant.2 in
+    let after = sym (rounds_spent le dear t here (c.args.n - c.loop-turn._turn) c.loop-turn.gave-way (omega arith)) ∙ c.loop-turn.invariant.2 in
     record {
       table = c.loop-turn.invariant.0;
       after = after;

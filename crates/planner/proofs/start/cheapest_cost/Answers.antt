@@ -17,12 +17,12 @@ loop-i-preserved g c =
     let step = ap (cheapest_among le c.loop-i.best) (costs_next t i (t.rows - i) (t.rows - (i + 1)) (omega arith)) in
     elim c.if-cheaper.branch [
       | then-cheaper w ↦ (
-        rw w.best_is (here.2, here.3),
-        ap (λ b. cheapest_among le b rest) w.best_is ∙ sym (step ∙ cheapest_moves le c.loop-i.best x rest (not-true (le c.loop-i.best x) (sym w.if-cheaper.ensures))) ∙ c.loop-i.invariant.1,
+        rw w.best-is (here.2, here.3),
+        ap (λ b. cheapest_among le b rest) w.best-is ∙ sym (step ∙ cheapest_moves le c.loop-i.best x rest (not-true (le c.loop-i.best x) (sym w.if-cheaper.ensures))) ∙ c.loop-i.invariant.1,
       )
       | else-cheaper w ↦ (
-        rw w.best_is c.loop-i.invariant.0,
-        ap (λ b. cheapest_among le b rest) w.best_is ∙ sym (step ∙ cheapest_stays le c.loop-i.best x rest (not-false (le c.loop-i.best x) (sym w.if-cheaper.ensures))) ∙ c.loop-i.invariant.1,
+        rw w.best-is c.loop-i.invariant.0,
+        ap (λ b. cheapest_among le b rest) w.best-is ∙ sym (step ∙ cheapest_stays le c.loop-i.best x rest (not-false (le c.loop-i.best x) (sym w.if-cheaper.ensures))) ∙ c.loop-i.invariant.1,
       )
     ]
 

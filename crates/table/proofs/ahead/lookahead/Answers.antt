@@ -6,8 +6,8 @@ use Rattle.table.proofs.Magnitudes.{fine-≤, own_within, own_modest, later_with
 use Rattle.table.proofs.Lookaheads.{ahead_some}
 use Rattle.table.proofs.ahead.lookahead.Goals as goal
 
-pub overflow-mul-scaling-2 : goal.overflow-mul-scaling-2
-overflow-mul-scaling-2 c = omega (arith, fine-≤ c.args.sound.now.table)
+pub overflow_mul-scaling-2 : goal.overflow_mul-scaling-2
+overflow_mul-scaling-2 c = omega (arith, fine-≤ c.args.sound.now.table)
 
 pub scale-now-requires : goal.scale-now-requires
 scale-now-requires c =
@@ -17,16 +17,16 @@ scale-now-requires c =
 pub scale-later-requires : goal.scale-later-requires
 scale-later-requires c =
     let t = c.args.sound.now.table in
-    later_modest t (times t.numerator c.weighted-sum.result) (later_within t c.weighted-sum.result c.weighted-sum.ensures.within)
+    later_modest t (times t.numerator c.weighted_sum.result) (later_within t c.weighted_sum.result c.weighted_sum.ensures.within)
 
 pub add-requires : goal.add-requires
 add-requires c =
     let t = c.args.sound.now.table in
     let k = c.args.k in
     let own = times (t.fineness * scaling t) (row_at t k).cost in
-    let later = times t.numerator c.weighted-sum.result in
+    let later = times t.numerator c.weighted_sum.result in
     rw (c.scale-now.ensures.is, c.scale-later.ensures.is)
-    (scaled_modest t (plus own later) (both_within t own later (own_within t k (omega arith, omega arith)) (later_within t c.weighted-sum.result c.weighted-sum.ensures.within)))
+    (scaled_modest t (plus own later) (both_within t own later (own_within t k (omega arith, omega arith)) (later_within t c.weighted_sum.result c.weighted_sum.ensures.within)))
 
 pub returns : goal.returns
 returns c =
@@ -34,11 +34,11 @@ returns c =
     let k = c.args.k in
     let w = figure_at c.args.figures.now.at in
     let own = times (t.fineness * scaling t) (row_at t k).cost in
-    let later = times t.numerator c.weighted-sum.result in
+    let later = times t.numerator c.weighted_sum.result in
     let sum = c.add.ensures.is ∙ (λ i. plus (c.scale-now.ensures.is i) (c.scale-later.ensures.is i)) in
-    let is : c.add.result ≡ X t k w = sum ∙ ap (λ s. plus own (times t.numerator s)) c.weighted-sum.ensures.is in
+    let is : c.add.result ≡ X t k w = sum ∙ ap (λ s. plus own (times t.numerator s)) c.weighted_sum.ensures.is in
     record {
       is = ap Some is ∙ sym (ahead_some t k w (omega arith, omega arith));
-      within = rw sum (both_within t own later (own_within t k (omega arith, omega arith)) (later_within t c.weighted-sum.result c.weighted-sum.ensures.within));
+      within = rw sum (both_within t own later (own_within t k (omega arith, omega arith)) (later_within t c.weighted_sum.result c.weighted_sum.ensures.within));
       modest = c.add.ensures.modest;
     }

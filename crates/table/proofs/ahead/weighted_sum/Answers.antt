@@ -29,19 +29,19 @@ scale-requires c =
     let here = t.arcsin (at - 1) (omega arith) in
     within_more (1000 * 10 ^ 10) (10 ^ 16) (times (arc_at t at).weight (figure_at ws (arc_at t at).destination)) (omega arith)
     (times_within (arc_at t at).weight 1000 (10 ^ 10) (figure_at ws (arc_at t at).destination) (omega (arith, t.weighed.1))
-    (figure_within t ws c.args.figures.now.within c.loop-turn.-turn at (omega arith) (omega arith) (omega arith)))
+    (figure_within t ws c.args.figures.now.within c.loop-turn._turn at (omega arith) (omega arith) (omega arith)))
 
 pub add-sum-requires : goal.add-sum-requires
 add-sum-requires c =
     let t = c.args.sound.now.table in
-    let next = budget_step t c.args.figures.now.at c.args.figures.now.within c.loop-turn.-turn c.loop-turn.at (omega arith) (omega arith) (omega arith) c.loop-turn.sum c.loop-turn.invariant.2 in
+    let next = budget_step t c.args.figures.now.at c.args.figures.now.within c.loop-turn._turn c.loop-turn.at (omega arith) (omega arith) (omega arith) c.loop-turn.sum c.loop-turn.invariant.2 in
     rw c.scale.ensures.is (within_more (t.total * 10 ^ 10) (10 ^ 16) (plus c.loop-turn.sum (times (arc_at t c.loop-turn.at).weight (figure_at c.args.figures.now.at (arc_at t c.loop-turn.at).destination))) (omega (arith, t.weighed.1)) (budget_within t.total _ _ next))
 
 pub loop-turn-preserved : goal.loop-turn-preserved
 loop-turn-preserved c =
     let t = c.args.sound.now.table in
     let at = c.loop-turn.at in
-    let turn = c.loop-turn.-turn in
+    let turn = c.loop-turn._turn in
     let w = figure_at c.args.figures.now.at in
     let here = t.arcsin (at - 1) (omega arith) in
     let rest = walk (next_arc t) (t.arcs - (turn + 1)) (next_arc t at) in
@@ -58,7 +58,7 @@ pub returns-then-at-eq0 : goal.returns-then-at-eq0
 returns-then-at-eq0 c =
     let t = c.args.sound.now.table in
     let w = figure_at c.args.figures.now.at in
-    let none = walk_end (next_arc t) c.loop-turn.at (t.arcs - c.loop-turn.-turn) (omega arith) in
+    let none = walk_end (next_arc t) c.loop-turn.at (t.arcs - c.loop-turn._turn) (omega arith) in
     record {
       is = sym (plus_zero c.loop-turn.sum) ∙ ap (λ l. plus c.loop-turn.sum (mean t w l)) (sym none) ∙ c.loop-turn.invariant.1;
       within = budget_within t.total _ _ c.loop-turn.invariant.2;

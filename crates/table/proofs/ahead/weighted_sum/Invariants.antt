@@ -7,5 +7,5 @@ use Rattle.table.proofs.ahead.weighted_sum.Given as goal
 
 abbrev pub invariant-loop-turn : goal.invariant-loop-turn
 invariant-loop-turn l = (l.at ≤ l.sound.table.arcs)
-    × (plus l.sum (mean l.sound.table (figure_at l.figures.at) (walk (next_arc l.sound.table) (l.sound.table.arcs - l.-turn) l.at)) ≡ mean l.sound.table (figure_at l.figures.at) (arcs_of l.sound.table l.k))
-    × Budget l.sound.table.total (weights l.sound.table (walk (next_arc l.sound.table) (l.sound.table.arcs - l.-turn) l.at)) l.sum
+    × (plus l.sum (mean l.sound.table (figure_at l.figures.at) (walk (next_arc l.sound.table) (l.sound.table.arcs - l._turn) l.at)) ≡ mean l.sound.table (figure_at l.figures.at) (arcs_of l.sound.table l.k))
+    × Budget l.sound.table.total (weights l.sound.table (walk (next_arc l.sound.table) (l.sound.table.arcs - l._turn) l.at)) l.sum

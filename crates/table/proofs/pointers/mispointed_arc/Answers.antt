@@ -71,4 +71,4 @@ returns c =
     let t = c.args.table.now in
     let same : c.loop-x.x ≡ t.arcs = omega arith in
     let all = subst (λ n. Counted t.arcs c.loop-x.counts (map (λ r. r.first_arc) (take t.rows t.row) ++ map (λ a. a.next) (take n t.arc))) same c.loop-x.invariant.1 in
-    c.lowest-off.ensures ∙ off_one all (t.arcs - 0) (omega arith) (omega arith)
+    c.lowest_off.ensures ∙ off_one all (t.arcs - 0) (omega arith) (omega arith)

@@ -72,4 +72,4 @@ returns c =
     let t = c.args.table.now in
     let same : c.loop-k.k ≡ t.rows = omega arith in
     let all = subst (λ n. Counted t.rows c.loop-k.counts (take t.grades t.first_row ++ map (λ r. r.next) (take n t.row))) same c.loop-k.invariant.1 in
-    c.lowest-off.ensures ∙ off_one all (t.rows - 0) (omega arith) (omega arith)
+    c.lowest_off.ensures ∙ off_one all (t.rows - 0) (omega arith) (omega arith)

@@ -31,7 +31,7 @@ tally-requires c =
 pub loop-turn-preserved : goal.loop-turn-preserved
 loop-turn-preserved c =
     let t = c.args.table.now in
-    let turn = c.loop-turn.-turn in
+    let turn = c.loop-turn._turn in
     let at = c.loop-turn.at in
     let here = t.arcsin (at - 1) (omega arith) in
     let step = walk_in (next_arc t) at (t.arcs - turn) (t.arcs - (turn + 1)) (omega arith) (omega arith) in (
@@ -43,7 +43,7 @@ loop-turn-preserved c =
 pub loop-k-preserved : goal.loop-k-preserved
 loop-k-preserved c =
     let t = c.args.table.now in
-    let f = t.arcs - c.loop-turn.-turn in
+    let f = t.arcs - c.loop-turn._turn in
     let at = c.loop-turn.at in
     let none : walk (next_arc t) f at ≡ [] =
     elim c.loop-turn-test.branch [ else-loop-turn-test w ↦ walk_spent (next_arc t) at f (omega arith) | then-loop-turn-test+then-at-eq0 w ↦ walk_end (next_arc t) at f (omega arith) ] in
@@ -55,4 +55,4 @@ returns c =
     let same : c.loop-k.k ≡ t.rows = omega arith in
     let all = subst (λ j. Counted t.arcs c.loop-k.visits (gathered (arcs_of t) j)) same c.loop-k.invariant.1 in
     let long = gathered-≤ (arcs_of t) 512 (λ i. let h = walk-≤ (next_arc t) t.arcs (get_or t.row (i - 1) row0).first_arc in omega (arith, t.arced.1)) t.rows in
-    c.lowest-off.ensures ∙ off_none all (t.arcs - 0) (omega arith) (omega arith) (omega arith)
+    c.lowest_off.ensures ∙ off_none all (t.arcs - 0) (omega arith) (omega arith) (omega arith)

@@ -10,4 +10,4 @@ invariant-loop-k l = (length l.visits ≡ 512) × Counted l.table.arcs l.visits 
 
 abbrev pub invariant-loop-turn : goal.invariant-loop-turn
 invariant-loop-turn l = (length l.visits ≡ 512) × (l.at ≤ l.table.arcs)
-    × Left l.table.arcs l.visits (walk (next_arc l.table) (l.table.arcs - l.-turn) l.at) (gathered (arcs_of l.table) (l.k + 1))
+    × Left l.table.arcs l.visits (walk (next_arc l.table) (l.table.arcs - l._turn) l.at) (gathered (arcs_of l.table) (l.k + 1))

@@ -31,7 +31,7 @@ tally-requires c =
 pub loop-turn-preserved : goal.loop-turn-preserved
 loop-turn-preserved c =
     let t = c.args.table.now in
-    let turn = c.loop-turn.-turn in
+    let turn = c.loop-turn._turn in
     let at = c.loop-turn.at in
     let here = t.rowsin (at - 1) (omega arith) in
     let step = walk_in (next_row t) at (t.rows - turn) (t.rows - (turn + 1)) (omega arith) (omega arith) in (
@@ -43,7 +43,7 @@ loop-turn-preserved c =
 pub loop-g-preserved : goal.loop-g-preserved
 loop-g-preserved c =
     let t = c.args.table.now in
-    let f = t.rows - c.loop-turn.-turn in
+    let f = t.rows - c.loop-turn._turn in
     let at = c.loop-turn.at in
     let none : walk (next_row t) f at ≡ [] =
     elim c.loop-turn-test.branch [ else-loop-turn-test w ↦ walk_spent (next_row t) at f (omega arith) | then-loop-turn-test+then-at-eq0 w ↦ walk_end (next_row t) at f (omega arith) ] in
@@ -55,4 +55,4 @@ returns c =
     let same : c.loop-g.g ≡ t.grades = omega arith in
     let all = subst (λ j. Counted t.rows c.loop-g.visits (gathered (rows_of t) j)) same c.loop-g.invariant.1 in
     let long = gathered-≤ (rows_of t) 96 (λ i. let h = walk-≤ (next_row t) t.rows (get_or t.first_row (i - 1) 0) in omega (arith, t.rowed.1)) t.grades in
-    c.lowest-off.ensures ∙ off_none all (t.rows - 0) (omega arith) (omega arith) (omega arith)
+    c.lowest_off.ensures ∙ off_none all (t.rows - 0) (omega arith) (omega arith) (omega arith)

@@ -10,4 +10,4 @@ invariant-loop-g l = (length l.visits ≡ 96) × Counted l.table.rows l.visits (
 
 abbrev pub invariant-loop-turn : goal.invariant-loop-turn
 invariant-loop-turn l = (length l.visits ≡ 96) × (l.at ≤ l.table.rows)
-    × Left l.table.rows l.visits (walk (next_row l.table) (l.table.rows - l.-turn) l.at) (gathered (rows_of l.table) (l.g + 1))
+    × Left l.table.rows l.visits (walk (next_row l.table) (l.table.rows - l._turn) l.at) (gathered (rows_of l.table) (l.g + 1))

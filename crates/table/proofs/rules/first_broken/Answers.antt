@@ -4,5 +4,5 @@ use Rattle.table.proofs.rules.first_broken.Goals as goal
 
 pub returns : goal.returns
 returns g c =
-    let is = c.broken-rule.ensures in
-    record { is = is; kept = answer_kept (g.R.Ranking.ranks c.args.ranking.now) c.args.sound.now.table (sound_table c.args.sound.now) c.args.figures.now c.broken-rule.result is }
+    let is = c.broken_rule.ensures in
+    record { is = is; kept = answer_kept (g.R.Ranking.ranks c.args.ranking.now) c.args.sound.now.table (sound_table c.args.sound.now) c.args.figures.now c.broken_rule.result is }

@@ -25,7 +25,7 @@ pub loop-turn-preserved : goal.loop-turn-preserved
 loop-turn-preserved g c =
     let t = c.args.sound.now.table in
     let i = c.loop-i.i in
-    let turn = c.loop-turn.-turn in
+    let turn = c.loop-turn._turn in
     let at = c.loop-turn.at in
     let bad = breaks_floor (g.R.Ranking.ranks c.args.ranking.now) t (figure_at c.args.floors.now.at) in
     let later = first_pair bad (rows_of t) (t.grades - (i + 1)) (i + 1 + 1) in
@@ -33,26 +33,26 @@ loop-turn-preserved g c =
     let step = walk_in (next_row t) at (t.rows - turn) (t.rows - (turn + 1)) (omega arith) (omega arith) in
     let here = t.rowsin (at - 1) (omega arith) in (
       here.0,
-      sym (ap (λ l. first_in bad (i + 1) l later) step ∙ in_later bad (i + 1) at rest later (ap not (sym c.if-not-keeps-floor.ensures))) ∙ c.loop-turn.invariant.1,
+      sym (ap (λ l. first_in bad (i + 1) l later) step ∙ in_later bad (i + 1) at rest later (ap not (sym c.if-not-keeps_floor.ensures))) ∙ c.loop-turn.invariant.1,
     )
 
-pub returns-then-not-keeps-floor : goal.returns-then-not-keeps-floor
-returns-then-not-keeps-floor g c =
+pub returns-then-not-keeps_floor : goal.returns-then-not-keeps_floor
+returns-then-not-keeps_floor g c =
     let t = c.args.sound.now.table in
     let i = c.loop-i.i in
-    let turn = c.loop-turn.-turn in
+    let turn = c.loop-turn._turn in
     let at = c.loop-turn.at in
     let bad = breaks_floor (g.R.Ranking.ranks c.args.ranking.now) t (figure_at c.args.floors.now.at) in
     let later = first_pair bad (rows_of t) (t.grades - (i + 1)) (i + 1 + 1) in
     let rest = walk (next_row t) (t.rows - (turn + 1)) (next_row t at) in
     let step = walk_in (next_row t) at (t.rows - turn) (t.rows - (turn + 1)) (omega arith) (omega arith) in
-    sym (ap (λ l. first_in bad (i + 1) l later) step ∙ in_here bad (i + 1) at rest later (ap not (sym c.if-not-keeps-floor.ensures))) ∙ c.loop-turn.invariant.1
+    sym (ap (λ l. first_in bad (i + 1) l later) step ∙ in_here bad (i + 1) at rest later (ap not (sym c.if-not-keeps_floor.ensures))) ∙ c.loop-turn.invariant.1
 
 pub loop-i-preserved : goal.loop-i-preserved
 loop-i-preserved g c =
     let t = c.args.sound.now.table in
     let i = c.loop-i.i in
-    let f = t.rows - c.loop-turn.-turn in
+    let f = t.rows - c.loop-turn._turn in
     let at = c.loop-turn.at in
     let bad = breaks_floor (g.R.Ranking.ranks c.args.ranking.now) t (figure_at c.args.floors.now.at) in
     let later = first_pair bad (rows_of t) (t.grades - (i + 1)) (i + 1 + 1) in

@@ -11,6 +11,6 @@ invariant-loop-i g l =
 
 abbrev pub invariant-loop-turn : goal.invariant-loop-turn
 invariant-loop-turn g l = (l.at ≤ l.sound.table.rows)
-    × (first_in (breaks_floor (g.R.Ranking.ranks l.ranking) l.sound.table (figure_at l.floors.at)) (l.i + 1) (walk (next_row l.sound.table) (l.sound.table.rows - l.-turn) l.at)
+    × (first_in (breaks_floor (g.R.Ranking.ranks l.ranking) l.sound.table (figure_at l.floors.at)) (l.i + 1) (walk (next_row l.sound.table) (l.sound.table.rows - l._turn) l.at)
     (first_pair (breaks_floor (g.R.Ranking.ranks l.ranking) l.sound.table (figure_at l.floors.at)) (rows_of l.sound.table) (l.sound.table.grades - (l.i + 1)) (l.i + 1 + 1))
     ≡ first_floor (g.R.Ranking.ranks l.ranking) l.sound.table l.floors.at)

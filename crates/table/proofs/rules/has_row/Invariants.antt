@@ -4,4 +4,4 @@ use Rattle.table.specs.Rules.{has}
 use Rattle.table.proofs.rules.has_row.Given as goal
 
 abbrev pub invariant-loop-turn : goal.invariant-loop-turn
-invariant-loop-turn l = (l.at ≤ l.table.rows) × (has l.k (walk (next_row l.table) (l.table.rows - l.-turn) l.at) ≡ has l.k (rows_of l.table l.g))
+invariant-loop-turn l = (l.at ≤ l.table.rows) × (has l.k (walk (next_row l.table) (l.table.rows - l._turn) l.at) ≡ has l.k (rows_of l.table l.g))

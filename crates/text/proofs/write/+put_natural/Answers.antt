@@ -14,8 +14,8 @@ put-natural-next-requires t c =
 sofar : (t : ℕ) (c : Joined-n-ge-TEN t) → Step c.args.out.now c.args.at c.args.n c.if-n-ge-TEN.next c.if-n-ge-TEN.out
 sofar t c =
     elim c.if-n-ge-TEN.branch [
-      | then-n-ge-TEN w ↦ step_more _ _ _ _ _ (omega arith) (omega arith) (w.next_is ∙ w.put-natural-next.ensures.place) (w.out-is ∙ w.put-natural-next.ensures.after)
-      | else-n-ge-TEN w ↦ step_one _ _ _ _ _ (omega arith) w.next_is w.out-is
+      | then-n-ge-TEN w ↦ step_more _ _ _ _ _ (omega arith) (omega arith) (w.next-is ∙ w.put-natural-next.ensures.place) (w.out-is ∙ w.put-natural-next.ensures.after)
+      | else-n-ge-TEN w ↦ step_one _ _ _ _ _ (omega arith) w.next-is w.out-is
     ]
 
 pub bounds-out-next : goal.bounds-out-next

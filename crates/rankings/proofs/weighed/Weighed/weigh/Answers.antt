@@ -36,13 +36,13 @@ module _ (p x z : ℤ) (r : ℕ) (e : p ≡ pos r) (small : r ≤ 200) (h : nat_
   total-is : to_z w64 (of_z w64 (to_z w64 (of_z w64 x) +ℤ to_z w64 (of_z w64 (to_z w64 (of_z w64 p) *ℤ to_z w64 (of_z w64 z))))) ≡ weight r (x, z)
   total-is = simp (to_z-of_z w64 p fits-p, to_z-of_z w64 z fits-z, to_z-of_z w64 x fits-x, to_z-of_z w64 (p *ℤ z) fits-product, to_z-of_z w64 (x +ℤ p *ℤ z) fits_sum) (rw e)
 
-pub overflow-mul-result : goal.overflow-mul-result
-overflow-mul-result c =
+pub overflow_mul-result : goal.overflow_mul-result
+overflow_mul-result c =
     let rate = c.args.self.now.rate in
     mul-fits c.price.result c.args.cost.0 c.args.cost.1 (counted_rate rate) c.price.ensures (counted_small rate) c.requires.0 c.requires.1
 
-pub overflow-add-result : goal.overflow-add-result
-overflow-add-result c =
+pub overflow_add-result : goal.overflow_add-result
+overflow_add-result c =
     let rate = c.args.self.now.rate in
     add-fits c.price.result c.args.cost.0 c.args.cost.1 (counted_rate rate) c.price.ensures (counted_small rate) c.requires.0 c.requires.1
 
