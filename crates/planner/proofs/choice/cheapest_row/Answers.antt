@@ -18,17 +18,17 @@ loop-turn-init g c =
     let k = first_row t c.args.g in
     let here = t.firsts (c.args.g - 1) (omega arith) in
     let next = t.rowsin (k - 1) (omega arith) in
-    let is = choice_is t w k c.in-ok-cost.cost (ahead_is t k w c.in-ok-cost.cost here c.in-ok-cost.ensures.is) in (
+    let is = choice_is t w k c.in_ok-cost.cost (ahead_is t k w c.in_ok-cost.cost here c.in_ok-cost.ensures.is) in (
       next.0,
       here,
-      c.in-ok-cost.ensures.within,
+      c.in_ok-cost.ensures.within,
       ap (λ b. Some (cheapest_from le t w b (walk (next_row t) (t.rows - 1) (next_row t k)))) (sym is) ∙ cheapest_start le t w c.args.g (omega arith, omega arith) (t.rows - 1) (omega (arith, t.rowed.0)),
     )
 
-pub cheaper-of-best-requires : goal.cheaper-of-best-requires
-cheaper-of-best-requires g c =
+pub cheaper_of-best-requires : goal.cheaper_of-best-requires
+cheaper_of-best-requires g c =
     let t = c.args.sound.now.table in
-    (scaled_modest t c.loop-turn.best.cost c.loop-turn.invariant.2, c.in-ok-cost-2.ensures.modest)
+    (scaled_modest t c.loop-turn.best.cost c.loop-turn.invariant.2, c.in_ok-cost-2.ensures.modest)
 
 pub loop-turn-preserved : goal.loop-turn-preserved
 loop-turn-preserved g c =
@@ -38,15 +38,15 @@ loop-turn-preserved g c =
     let turn = c.loop-turn._turn in
     let at = c.loop-turn.at in
     let best = c.loop-turn.best in
-    let x = c.in-ok-cost-2.cost in
+    let x = c.in_ok-cost-2.cost in
     let next = t.rowsin (at - 1) (omega arith) in
     let rest = walk (next_row t) (t.rows - (turn + 1)) (next_row t at) in
     let step = walk_in (next_row t) at (t.rows - turn) (t.rows - (turn + 1)) (omega arith) (omega arith) in
-    let is = choice_is t w at x (ahead_is t at w x (omega arith, omega arith) c.in-ok-cost-2.ensures.is) in (
+    let is = choice_is t w at x (ahead_is t at w x (omega arith, omega arith) c.in_ok-cost-2.ensures.is) in (
       next.0,
-      subst (λ b. Within 1 t.rows b.row) (sym c.cheaper-of-best.ensures) (cheaper_row_lem le t.rows best (record { row = at; cost = x }) c.loop-turn.invariant.1 (omega arith, omega arith)),
-      rw c.cheaper-of-best.ensures (cheaper_within le (scaling t * 10 ^ 10) best (record { row = at; cost = x }) c.loop-turn.invariant.2 c.in-ok-cost-2.ensures.within),
-      ap (λ b. Some (cheapest_from le t w b rest)) (c.cheaper-of-best.ensures ∙ ap (cheaper_of le best) (sym is)) ∙ ap (λ l. Some (cheapest_from le t w best l)) (sym step) ∙ c.loop-turn.invariant.3,
+      subst (λ b. Within 1 t.rows b.row) (sym c.cheaper_of-best.ensures) (cheaper_row_lem le t.rows best (record { row = at; cost = x }) c.loop-turn.invariant.1 (omega arith, omega arith)),
+      rw c.cheaper_of-best.ensures (cheaper_within le (scaling t * 10 ^ 10) best (record { row = at; cost = x }) c.loop-turn.invariant.2 c.in_ok-cost-2.ensures.within),
+      ap (λ b. Some (cheapest_from le t w b rest)) (c.cheaper_of-best.ensures ∙ ap (cheaper_of le best) (sym is)) ∙ ap (λ l. Some (cheapest_from le t w best l)) (sym step) ∙ c.loop-turn.invariant.3,
     )
 
 pub returns-then-at-eq0 : goal.returns-then-at-eq0

@@ -21,7 +21,7 @@ loop-i-preserved g c =
     let at = c.loop-i.at in
     let row = c.loop-i.row in
     let inside : i < length at = omega (arith, t.graded.1) in
-    elim c.match-cheaper-ceiling.branch [
+    elim c.match-cheaper_ceiling.branch [
       | in-Some v ↦
           let x = v.in-Some.choice in
           let is = v.in-Some.ensures.is in
@@ -29,19 +29,19 @@ loop-i-preserved g c =
           let there : Within 1 t.rows (get_or q.figures.row i 0) = subst (λ s. (i < s.table.grades → Within 1 s.table.rows (get_or q.figures.row i 0))) c.requires (λ h. q.planned i h) (omega arith) in
           let ranged : Within 1 t.rows x.row = subst (Within 1 t.rows) (sym (v.in-Some.ensures.row ∙ ap (λ j. get_or q.figures.row j 0) same)) there in (
             ap length v.at-is ∙ length-set at i x.cost ∙ c.loop-i.invariant.0,
-            ap length v.row_is ∙ length-set row i x.row ∙ c.loop-i.invariant.1,
+            ap length v.row-is ∙ length-set row i x.row ∙ c.loop-i.invariant.1,
             subst FiguresIn (sym v.at-is) (set_within at i x.cost inside c.loop-i.invariant.2 v.in-Some.ensures.within),
-            subst (FirstsIn t.grades t.rows) (sym v.row_is) (set_row t.grades t.rows row i x.row (omega (arith, t.graded.1)) c.loop-i.invariant.3 ranged),
+            subst (FirstsIn t.grades t.rows) (sym v.row-is) (set_row t.grades t.rows row i x.row (omega (arith, t.graded.1)) c.loop-i.invariant.3 ranged),
             v.at-is ∙ applied_some (cheaper_ceiling le (shown p.figures) (shown q.figures)) i p.figures.ceiling.at at x.cost c.loop-i.invariant.4 (ap (option_map (λ c. c.cost)) is),
-            v.row_is ∙ applied_some (cheaper_row le (shown p.figures) (shown q.figures)) i p.figures.row row x.row c.loop-i.invariant.5 (ap (option_map (λ c. c.row)) is),
+            v.row-is ∙ applied_some (cheaper_row le (shown p.figures) (shown q.figures)) i p.figures.row row x.row c.loop-i.invariant.5 (ap (option_map (λ c. c.row)) is),
           )
       | in-None v ↦
           let is = v.in-None.ensures.is in (
             ap length v.at-is ∙ c.loop-i.invariant.0,
-            ap length v.row_is ∙ c.loop-i.invariant.1,
+            ap length v.row-is ∙ c.loop-i.invariant.1,
             subst FiguresIn (sym v.at-is) c.loop-i.invariant.2,
-            subst (FirstsIn t.grades t.rows) (sym v.row_is) c.loop-i.invariant.3,
+            subst (FirstsIn t.grades t.rows) (sym v.row-is) c.loop-i.invariant.3,
             v.at-is ∙ applied_none (cheaper_ceiling le (shown p.figures) (shown q.figures)) i p.figures.ceiling.at at c.loop-i.invariant.4 (ap (option_map (λ c. c.cost)) is),
-            v.row_is ∙ applied_none (cheaper_row le (shown p.figures) (shown q.figures)) i p.figures.row row c.loop-i.invariant.5 (ap (option_map (λ c. c.row)) is),
+            v.row-is ∙ applied_none (cheaper_row le (shown p.figures) (shown q.figures)) i p.figures.row row c.loop-i.invariant.5 (ap (option_map (λ c. c.row)) is),
           )
     ]

@@ -11,12 +11,12 @@ returns g c =
     let p = c.args.page.now in
     let t = p.sound.table in
     let ls = c.args.lines.now in
-    let filed = c.in-ok-filed.ensures.answer in
-    let kept = c.in-ok-filed.ensures.kept in
-    let f = c.in-ok-filed.filed.figures in
-    let after = c.nearer-page.ensures.after in
+    let filed = c.in_ok-filed.ensures.answer in
+    let kept = c.in_ok-filed.ensures.kept in
+    let f = c.in_ok-filed.filed.figures in
+    let after = c.nearer_page.ensures.after in
     record {
-      answer = (filed.0, filed.1, c.nearer-page.ensures.table, after ∙ nearer_same le ls f filed.3 (shown p.figures) t.grades);
+      answer = (filed.0, filed.1, c.nearer_page.ensures.table, after ∙ nearer_same le ls f filed.3 (shown p.figures) t.grades);
       kept = kept;
-      keeps = taken_keeps le ls f filed.3 (g.met.R.Ranking.ordered s) (g.met.R.Ranking.linear s) t (sound_table p.sound) p.figures (shown c.nearer-page.result.figures) after kept.kept;
+      keeps = taken_keeps le ls f filed.3 (g.met.R.Ranking.ordered s) (g.met.R.Ranking.linear s) t (sound_table p.sound) p.figures (shown c.nearer_page.result.figures) after kept.kept;
     }

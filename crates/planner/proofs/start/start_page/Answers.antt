@@ -23,31 +23,31 @@ every w h i lt = rw (get_or-replicate 32 i w zero lt) h
 pub scale-lowest-requires : goal.scale-lowest-requires
 scale-lowest-requires g c =
     let t = c.args.sound.now.table in
-    let x = c.cheapest-cost.result in
-    within_more (10 ^ 10) (10 ^ 16) (times (t.fineness * t.denominator) x) (omega arith) (start-within t x c.cheapest-cost.ensures.within)
+    let x = c.cheapest_cost.result in
+    within_more (10 ^ 10) (10 ^ 16) (times (t.fineness * t.denominator) x) (omega arith) (start-within t x c.cheapest_cost.ensures.within)
 
 pub scale-highest-requires : goal.scale-highest-requires
 scale-highest-requires g c =
     let t = c.args.sound.now.table in
-    let x = c.dearest-cost.result in
-    within_more (10 ^ 10) (10 ^ 16) (times (t.fineness * t.denominator) x) (omega arith) (start-within t x c.dearest-cost.ensures.within)
+    let x = c.dearest_cost.result in
+    within_more (10 ^ 10) (10 ^ 16) (times (t.fineness * t.denominator) x) (omega arith) (start-within t x c.dearest_cost.ensures.within)
 
-pub invariant-of-floor : goal.invariant-of-floor
-invariant-of-floor g c = (every c.scale-lowest.result (rw c.scale-lowest.ensures.is (start-within c.args.sound.now.table c.cheapest-cost.result c.cheapest-cost.ensures.within)), (refl, tt))
+pub invariant_of-floor : goal.invariant_of-floor
+invariant_of-floor g c = record { within = every c.scale-lowest.result (rw c.scale-lowest.ensures.is (start-within c.args.sound.now.table c.cheapest_cost.result c.cheapest_cost.ensures.within)); long = refl }
 
-pub invariant-of-ceiling : goal.invariant-of-ceiling
-invariant-of-ceiling g c = (every c.scale-highest.result (rw c.scale-highest.ensures.is (start-within c.args.sound.now.table c.dearest-cost.result c.dearest-cost.ensures.within)), (refl, tt))
+pub invariant_of-ceiling : goal.invariant_of-ceiling
+invariant_of-ceiling g c = record { within = every c.scale-highest.result (rw c.scale-highest.ensures.is (start-within c.args.sound.now.table c.dearest_cost.result c.dearest_cost.ensures.within)); long = refl }
 
-pub invariant-of-figures : goal.invariant-of-figures
-invariant-of-figures g c = (c.args.sound.now.table.firstlong, tt)
+pub invariant_of-figures : goal.invariant_of-figures
+invariant_of-figures g c = record { long = c.args.sound.now.table.firstlong }
 
 pub returns : goal.returns
 returns g c =
     let s = c.args.ranking.now in
     let t = c.args.sound.now.table in
     let le = g.R.Ranking.ranks s in
-    let low = c.scale-lowest.ensures.is ∙ ap (start_figure t) c.cheapest-cost.ensures.is in
-    let high = c.scale-highest.ensures.is ∙ ap (start_figure t) c.dearest-cost.ensures.is in
+    let low = c.scale-lowest.ensures.is ∙ ap (start_figure t) c.cheapest_cost.ensures.is in
+    let high = c.scale-highest.ensures.is ∙ ap (start_figure t) c.dearest_cost.ensures.is in
     let start : ◌≡◌ {A = Shown} (record { rows = t.first_row; floors = replicate 32 c.scale-lowest.result; ceilings = replicate 32 c.scale-highest.result }) (start_of le t) =
     (λ i. record { rows = t.first_row; floors = replicate 32 (low i); ceilings = replicate 32 (high i) }) in
     record { table = refl; start = record { is = start }; extremes = extremes le (g.met.R.Ranking.ordered s) t; keeps = subst (ShownKept le t) (sym start) (start_keeps le (g.met.R.Ranking.ordered s) (g.met.R.Ranking.linear s) t (sound_table c.args.sound.now)) }

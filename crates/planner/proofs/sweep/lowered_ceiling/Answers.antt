@@ -6,17 +6,17 @@ use Rattle.planner.specs.Choices.{cheapest_row}
 use Rattle.planner.proofs.Roundings.{divisor_is, divisor_low, divisor_high, figure_modest, dear_within, lower_yes, lower_no}
 use Rattle.planner.proofs.sweep.lowered_ceiling.Goals as goal
 
-pub round-dear-cost-requires : goal.round-dear-cost-requires
-round-dear-cost-requires g c =
+pub round_dear-cost-requires : goal.round_dear-cost-requires
+round_dear-cost-requires g c =
     let t = c.args.sound.now.table in (
-      scaled_modest t c.in-ok-best.best.cost c.in-ok-best.ensures.within,
+      scaled_modest t c.in_ok-best.best.cost c.in_ok-best.ensures.within,
       (divisor_low t c.divisor.result c.divisor.ensures, divisor_high t c.divisor.result c.divisor.ensures),
     )
 
 pub cheaper-requires : goal.cheaper-requires
 cheaper-requires g c =
     let t = c.args.sound.now.table in
-    (c.round-dear-cost.ensures.modest, figure_modest (figure_at c.args.ceilings.now.at c.args.g) (c.args.ceilings.now.within (c.args.g - 1) (omega (arith, t.graded.1))))
+    (c.round_dear-cost.ensures.modest, figure_modest (figure_at c.args.ceilings.now.at c.args.g) (c.args.ceilings.now.within (c.args.g - 1) (omega (arith, t.graded.1))))
 
 pub returns-then-cheaper : goal.returns-then-cheaper
 returns-then-cheaper g c =
@@ -25,15 +25,15 @@ returns-then-cheaper g c =
     let le = g.R.Ranking.ranks s in
     let cheap = g.R.Rounding.cheap s in
     let dear = g.R.Rounding.dear s in
-    let b = c.in-ok-best.best in
+    let b = c.in_ok-best.best in
     let old = figure_at c.args.ceilings.now.at c.args.g in
-    let x = c.round-dear-cost.result in
-    let is : x ≡ dear b.cost (scaling t) = c.round-dear-cost.ensures.is ∙ ap (λ z. dear b.cost (nat_abs z)) (divisor_is t c.divisor.result c.divisor.ensures) in
+    let x = c.round_dear-cost.result in
+    let is : x ≡ dear b.cost (scaling t) = c.round_dear-cost.ensures.is ∙ ap (λ z. dear b.cost (nat_abs z)) (divisor_is t c.divisor.result c.divisor.ensures) in
     let best = cheapest_row le t (figure_at c.args.ceilings.now.at) c.args.g in
     record {
-      is = ap (λ v. Some (record { row = b.row; cost = v })) is ∙ lower_yes le cheap dear t old best b c.in-ok-best.ensures.is (ap (λ v. le old v) (sym is) ∙ not-true (le old x) (sym c.if-cheaper.ensures));
-      within = rw is (dear_within le cheap dear (g.met.R.Rounding.rounds s) t b.cost c.in-ok-best.ensures.within);
-      row = c.in-ok-best.ensures.row;
+      is = ap (λ v. Some (record { row = b.row; cost = v })) is ∙ lower_yes le cheap dear t old best b c.in_ok-best.ensures.is (ap (λ v. le old v) (sym is) ∙ not-true (le old x) (sym c.if-cheaper.ensures));
+      within = rw is (dear_within le cheap dear (g.met.R.Rounding.rounds s) t b.cost c.in_ok-best.ensures.within);
+      row = c.in_ok-best.ensures.row;
     }
 
 pub returns-else-cheaper : goal.returns-else-cheaper
@@ -43,13 +43,13 @@ returns-else-cheaper g c =
     let le = g.R.Ranking.ranks s in
     let cheap = g.R.Rounding.cheap s in
     let dear = g.R.Rounding.dear s in
-    let b = c.in-ok-best.best in
+    let b = c.in_ok-best.best in
     let old = figure_at c.args.ceilings.now.at c.args.g in
-    let x = c.round-dear-cost.result in
-    let is : x ≡ dear b.cost (scaling t) = c.round-dear-cost.ensures.is ∙ ap (λ z. dear b.cost (nat_abs z)) (divisor_is t c.divisor.result c.divisor.ensures) in
+    let x = c.round_dear-cost.result in
+    let is : x ≡ dear b.cost (scaling t) = c.round_dear-cost.ensures.is ∙ ap (λ z. dear b.cost (nat_abs z)) (divisor_is t c.divisor.result c.divisor.ensures) in
     let best = cheapest_row le t (figure_at c.args.ceilings.now.at) c.args.g in
     record {
-      is = lower_no le cheap dear t old best b c.in-ok-best.ensures.is (ap (λ v. le old v) (sym is) ∙ not-false (le old x) (sym c.if-cheaper.ensures));
+      is = lower_no le cheap dear t old best b c.in_ok-best.ensures.is (ap (λ v. le old v) (sym is) ∙ not-false (le old x) (sym c.if-cheaper.ensures));
       within = tt;
       row = tt;
     }

@@ -6,17 +6,17 @@ use Rattle.planner.specs.Choices.{cheapest_row}
 use Rattle.planner.proofs.Roundings.{divisor_is, divisor_low, divisor_high, figure_modest, cheap_within, raise_yes, raise_no}
 use Rattle.planner.proofs.sweep.raised_floor.Goals as goal
 
-pub round-cheap-floor-requires : goal.round-cheap-floor-requires
-round-cheap-floor-requires g c =
+pub round_cheap-floor-requires : goal.round_cheap-floor-requires
+round_cheap-floor-requires g c =
     let t = c.args.sound.now.table in (
-      scaled_modest t c.in-ok-best.best.cost c.in-ok-best.ensures.within,
+      scaled_modest t c.in_ok-best.best.cost c.in_ok-best.ensures.within,
       (divisor_low t c.divisor.result c.divisor.ensures, divisor_high t c.divisor.result c.divisor.ensures),
     )
 
 pub dearer-requires : goal.dearer-requires
 dearer-requires g c =
     let t = c.args.sound.now.table in
-    (c.round-cheap-floor.ensures.modest, figure_modest (figure_at c.args.floors.now.at c.args.g) (c.args.floors.now.within (c.args.g - 1) (omega (arith, t.graded.1))))
+    (c.round_cheap-floor.ensures.modest, figure_modest (figure_at c.args.floors.now.at c.args.g) (c.args.floors.now.within (c.args.g - 1) (omega (arith, t.graded.1))))
 
 pub returns-then-dearer : goal.returns-then-dearer
 returns-then-dearer g c =
@@ -25,14 +25,14 @@ returns-then-dearer g c =
     let le = g.R.Ranking.ranks s in
     let cheap = g.R.Rounding.cheap s in
     let dear = g.R.Rounding.dear s in
-    let b = c.in-ok-best.best in
+    let b = c.in_ok-best.best in
     let old = figure_at c.args.floors.now.at c.args.g in
-    let x = c.round-cheap-floor.result in
-    let is : x ≡ cheap b.cost (scaling t) = c.round-cheap-floor.ensures.is ∙ ap (λ z. cheap b.cost (nat_abs z)) (divisor_is t c.divisor.result c.divisor.ensures) in
+    let x = c.round_cheap-floor.result in
+    let is : x ≡ cheap b.cost (scaling t) = c.round_cheap-floor.ensures.is ∙ ap (λ z. cheap b.cost (nat_abs z)) (divisor_is t c.divisor.result c.divisor.ensures) in
     let best = cheapest_row le t (figure_at c.args.floors.now.at) c.args.g in
     record {
-      is = ap Some is ∙ raise_yes le cheap dear t old best b c.in-ok-best.ensures.is (ap (λ v. le v old) (sym is) ∙ not-true (le x old) (sym c.if-dearer.ensures));
-      within = rw is (cheap_within le cheap dear (g.met.R.Rounding.rounds s) t b.cost c.in-ok-best.ensures.within);
+      is = ap Some is ∙ raise_yes le cheap dear t old best b c.in_ok-best.ensures.is (ap (λ v. le v old) (sym is) ∙ not-true (le x old) (sym c.if-dearer.ensures));
+      within = rw is (cheap_within le cheap dear (g.met.R.Rounding.rounds s) t b.cost c.in_ok-best.ensures.within);
     }
 
 pub returns-else-dearer : goal.returns-else-dearer
@@ -42,12 +42,12 @@ returns-else-dearer g c =
     let le = g.R.Ranking.ranks s in
     let cheap = g.R.Rounding.cheap s in
     let dear = g.R.Rounding.dear s in
-    let b = c.in-ok-best.best in
+    let b = c.in_ok-best.best in
     let old = figure_at c.args.floors.now.at c.args.g in
-    let x = c.round-cheap-floor.result in
-    let is : x ≡ cheap b.cost (scaling t) = c.round-cheap-floor.ensures.is ∙ ap (λ z. cheap b.cost (nat_abs z)) (divisor_is t c.divisor.result c.divisor.ensures) in
+    let x = c.round_cheap-floor.result in
+    let is : x ≡ cheap b.cost (scaling t) = c.round_cheap-floor.ensures.is ∙ ap (λ z. cheap b.cost (nat_abs z)) (divisor_is t c.divisor.result c.divisor.ensures) in
     let best = cheapest_row le t (figure_at c.args.floors.now.at) c.args.g in
     record {
-      is = raise_no le cheap dear t old best b c.in-ok-best.ensures.is (ap (λ v. le v old) (sym is) ∙ not-false (le x old) (sym c.if-dearer.ensures));
+      is = raise_no le cheap dear t old best b c.in_ok-best.ensures.is (ap (λ v. le v old) (sym is) ∙ not-false (le x old) (sym c.if-dearer.ensures));
       within = tt;
     }

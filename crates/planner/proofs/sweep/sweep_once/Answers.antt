@@ -26,27 +26,27 @@ loop-i-preserved g c =
     let at = c.loop-i.at in
     let row = c.loop-i.row in
     let inside : i < length at = omega (arith, t.graded.1) in
-    elim c.match-lowered-ceiling.branch [
+    elim c.match-lowered_ceiling.branch [
       | in-Some v ↦
           let x = v.in-Some.choice in
           let is = v.in-Some.ensures.is in (
             ap length v.at-is ∙ length-set at i x.cost ∙ c.loop-i.invariant.0,
-            ap length v.row_is ∙ length-set row i x.row ∙ c.loop-i.invariant.1,
+            ap length v.row-is ∙ length-set row i x.row ∙ c.loop-i.invariant.1,
             subst FiguresIn (sym v.at-is) (set_within at i x.cost inside c.loop-i.invariant.2 v.in-Some.ensures.within),
-            subst (FirstsIn t.grades t.rows) (sym v.row_is) (set_row t.grades t.rows row i x.row (omega (arith, t.graded.1)) c.loop-i.invariant.3 v.in-Some.ensures.row),
+            subst (FirstsIn t.grades t.rows) (sym v.row-is) (set_row t.grades t.rows row i x.row (omega (arith, t.graded.1)) c.loop-i.invariant.3 v.in-Some.ensures.row),
             v.at-is ∙ applied_some (lowered_cost (g.R.Ranking.ranks s) (g.R.Rounding.cheap s) (g.R.Rounding.dear s) t w) i old at x.cost c.loop-i.invariant.4 (ap (option_map (λ c. c.cost)) is),
-            v.row_is ∙ applied_some (lowered_row (g.R.Ranking.ranks s) (g.R.Rounding.cheap s) (g.R.Rounding.dear s) t w) i c.args.page.now.figures.row row x.row c.loop-i.invariant.5 (ap (option_map (λ c. c.row)) is),
-            v.ceilings-moved-is ∙ any_yes (λ g. is_some (f g)) i (ap is_some is),
+            v.row-is ∙ applied_some (lowered_row (g.R.Ranking.ranks s) (g.R.Rounding.cheap s) (g.R.Rounding.dear s) t w) i c.args.page.now.figures.row row x.row c.loop-i.invariant.5 (ap (option_map (λ c. c.row)) is),
+            v.ceilings_moved-is ∙ any_yes (λ g. is_some (f g)) i (ap is_some is),
           )
       | in-None v ↦
           let is = v.in-None.ensures.is in (
             ap length v.at-is ∙ c.loop-i.invariant.0,
-            ap length v.row_is ∙ c.loop-i.invariant.1,
+            ap length v.row-is ∙ c.loop-i.invariant.1,
             subst FiguresIn (sym v.at-is) c.loop-i.invariant.2,
-            subst (FirstsIn t.grades t.rows) (sym v.row_is) c.loop-i.invariant.3,
+            subst (FirstsIn t.grades t.rows) (sym v.row-is) c.loop-i.invariant.3,
             v.at-is ∙ applied_none (lowered_cost (g.R.Ranking.ranks s) (g.R.Rounding.cheap s) (g.R.Rounding.dear s) t w) i old at c.loop-i.invariant.4 (ap (option_map (λ c. c.cost)) is),
-            v.row_is ∙ applied_none (lowered_row (g.R.Ranking.ranks s) (g.R.Rounding.cheap s) (g.R.Rounding.dear s) t w) i c.args.page.now.figures.row row c.loop-i.invariant.5 (ap (option_map (λ c. c.row)) is),
-            v.ceilings-moved-is ∙ any_no (λ g. is_some (f g)) i c.loop-i.ceilings-moved c.loop-i.invariant.6 (ap is_some is),
+            v.row-is ∙ applied_none (lowered_row (g.R.Ranking.ranks s) (g.R.Rounding.cheap s) (g.R.Rounding.dear s) t w) i c.args.page.now.figures.row row c.loop-i.invariant.5 (ap (option_map (λ c. c.row)) is),
+            v.ceilings_moved-is ∙ any_no (λ g. is_some (f g)) i c.loop-i.ceilings_moved c.loop-i.invariant.6 (ap is_some is),
           )
     ]
 
@@ -63,8 +63,8 @@ returns g c =
     let end : c.loop-i.i ≡ t.grades = omega arith in
     let at : c.loop-i.at ≡ (sweep_of le cheap dear t (shown p.figures)).ceilings = inv.4 ∙ ap (λ n. applied (lowered_cost le cheap dear t (figure_at old)) n old) end in
     let row : c.loop-i.row ≡ (sweep_of le cheap dear t (shown p.figures)).rows = inv.5 ∙ ap (λ n. applied (lowered_row le cheap dear t (figure_at old)) n p.figures.row) end in
-    let after : ◌≡◌ {A = Shown} (record { rows = c.loop-i.row; floors = c.swept-floors-floors-moved.result.0.at; ceilings = c.loop-i.at }) (sweep_of le cheap dear t (shown p.figures)) =
-    (λ i. record { rows = row i; floors = c.swept-floors-floors-moved.ensures.after i; ceilings = at i }) in
+    let after : ◌≡◌ {A = Shown} (record { rows = c.loop-i.row; floors = c.swept_floors-floors_moved.result.0.at; ceilings = c.loop-i.at }) (sweep_of le cheap dear t (shown p.figures)) =
+    (λ i. record { rows = row i; floors = c.swept_floors-floors_moved.ensures.after i; ceilings = at i }) in
     record {
       table = refl;
       after = after;

@@ -16,13 +16,13 @@ returns-then-not-sweep g c =
     let n = c.args.n in
     let old = shown c.loop-turn.page.figures in
     let same = ap (λ x. x.table) c.loop-turn.invariant.0 in
-    let no : c.sweep-once-sweep.result.moved ≡ false = not-true c.sweep-once-sweep.result.moved c.if-not-sweep.true in
-    let still : moves le cheap dear t old ≡ false = ap (λ u. moves le cheap dear u old) (sym same) ∙ sym c.sweep-once-sweep.ensures.moved ∙ no in
+    let no : c.sweep_once-sweep.result.moved ≡ false = not-true c.sweep_once-sweep.result.moved c.if-not-sweep.true in
+    let still : moves le cheap dear t old ≡ false = ap (λ u. moves le cheap dear u old) (sym same) ∙ sym c.sweep_once-sweep.ensures.moved ∙ no in
     let after =
-    ap (λ f. (f, (turn + 1, true))) (c.sweep-once-sweep.ensures.after ∙ ap (λ u. sweep_of le cheap dear u old) same)
+    ap (λ f. (f, (turn + 1, true))) (c.sweep_once-sweep.ensures.after ∙ ap (λ u. sweep_of le cheap dear u old) same)
     ∙ sym (sweeps_settle le cheap dear t old (n - turn) (n - (turn + 1)) turn (omega arith) still) ∙ c.loop-turn.invariant.1 in
     record {
-      table = c.sweep-once-sweep.ensures.table ∙ c.loop-turn.invariant.0;
+      table = c.sweep_once-sweep.ensures.table ∙ c.loop-turn.invariant.0;
       after = after;
       keeps = swept_keeps le cheap dear (g.met.R.Ranking.ordered s) (g.met.R.Ranking.linear s) (g.met.R.Rounding.rounds s) c.args.page.now n _ (ap (λ p. p.0) after);
     }
@@ -55,9 +55,9 @@ loop-turn-preserved g c =
     let n = c.args.n in
     let old = shown c.loop-turn.page.figures in
     let same = ap (λ x. x.table) c.loop-turn.invariant.0 in
-    let yes : c.sweep-once-sweep.result.moved ≡ true = not-false c.sweep-once-sweep.result.moved c.if-not-sweep.false in
-    let moved : moves le cheap dear t old ≡ true = ap (λ u. moves le cheap dear u old) (sym same) ∙ sym c.sweep-once-sweep.ensures.moved ∙ yes in (
-      c.sweep-once-sweep.ensures.table ∙ c.loop-turn.invariant.0,
-      ap (λ f. after (turn + 1) (sweeps le cheap dear t (n - (turn + 1)) f)) (c.sweep-once-sweep.ensures.after ∙ ap (λ u. sweep_of le cheap dear u old) same)
+    let yes : c.sweep_once-sweep.result.moved ≡ true = not-false c.sweep_once-sweep.result.moved c.if-not-sweep.false in
+    let moved : moves le cheap dear t old ≡ true = ap (λ u. moves le cheap dear u old) (sym same) ∙ sym c.sweep_once-sweep.ensures.moved ∙ yes in (
+      c.sweep_once-sweep.ensures.table ∙ c.loop-turn.invariant.0,
+      ap (λ f. after (turn + 1) (sweeps le cheap dear t (n - (turn + 1)) f)) (c.sweep_once-sweep.ensures.after ∙ ap (λ u. sweep_of le cheap dear u old) same)
           ∙ sym (sweeps_on le cheap dear t old (n - turn) (n - (turn + 1)) turn (omega arith) moved) ∙ c.loop-turn.invariant.1,
     )

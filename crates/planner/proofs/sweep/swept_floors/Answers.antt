@@ -19,7 +19,7 @@ loop-i-preserved g c =
     let i = c.loop-i.i in
     let at = c.loop-i.at in
     let inside : i < length at = omega (arith, t.graded.1) in
-    elim c.match-raised-floor.branch [
+    elim c.match-raised_floor.branch [
       | in-Some w ↦ (
         ap length w.at-is ∙ length-set at i w.in-Some.floor ∙ c.loop-i.invariant.0,
         subst FiguresIn (sym w.at-is) (set_within at i w.in-Some.floor inside c.loop-i.invariant.1 w.in-Some.ensures.within),
