@@ -1,7 +1,6 @@
 //! The lines of a sheet, one by one: each kind with its fields, read and written.
 #![tactic(auto)]
 
-
 mod fault;
 mod line_reading;
 mod line_writing;

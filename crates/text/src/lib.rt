@@ -3,7 +3,6 @@
 //! A field's text has the byte that ends it as its last: so no field's text is the front of another's.
 #![tactic(auto)]
 
-
 mod end;
 mod limits;
 mod read;

@@ -15,8 +15,8 @@ returns-then-at-sheet c =
 pub returns-in-None : goal.returns-in-None
 returns-in-None c = record { reads = rw take_rest at c.in-None.ensures.reads; place = refl }
 
-pub overflow-sub-result : goal.overflow-sub-result
-overflow-sub-result c =
+pub overflow_sub-result : goal.overflow_sub-result
+overflow_sub-result c =
     let sheet = c.args.sheet.now in
     let says = entry_of c.in-Some.line in
     let rest = c.in-Some.rest.now in

@@ -7,29 +7,29 @@ use Rattle.text.proofs.Reading.{first_none, first_then}
 use Rattle.lines.specs.Lines.{blank}
 use Rattle.lines.proofs.line_reading.read_grade.Goals as goal
 
-pub returns-in-err-number : goal.returns-in-err-number
-returns-in-err-number c =
-    rw c.from-residual.ensures
-    (first_none (Each Small Label) (both blank label_text) c.in-err-number.ensures)
+pub returns-in_err-number : goal.returns-in_err-number
+returns-in_err-number c =
+    rw c.from_residual.ensures
+    (first_none (Each Small Label) (both blank label_text) c.in_err-number.ensures)
 
-pub returns-in-err-first-row : goal.returns-in-err-first-row
-returns-in-err-first-row c =
-    rw c.from-residual-in-err-first-row.ensures
-    (first_then c.in-ok-number.number c.in-ok-number.rest.now c.in-ok-number.ensures None
-    (first_none Label label_text c.in-err-first-row.ensures))
+pub returns-in_err-first_row : goal.returns-in_err-first_row
+returns-in_err-first_row c =
+    rw c.from_residual-in_err-first_row.ensures
+    (first_then c.in_ok-number.number c.in_ok-number.rest.now c.in_ok-number.ensures None
+    (first_none Label label_text c.in_err-first_row.ensures))
 
-pub returns-in-err-label : goal.returns-in-err-label
-returns-in-err-label c =
-    rw c.from-residual-in-err-label.ensures
-    (first_then c.in-ok-number.number c.in-ok-number.rest.now c.in-ok-number.ensures None
-    (first_then c.in-ok-first-row.first_row_lem c.in-ok-first-row.rest.now c.in-ok-first-row.ensures None
-    c.in-err-label.ensures))
+pub returns-in_err-label : goal.returns-in_err-label
+returns-in_err-label c =
+    rw c.from_residual-in_err-label.ensures
+    (first_then c.in_ok-number.number c.in_ok-number.rest.now c.in_ok-number.ensures None
+    (first_then c.in_ok-first_row.first_row c.in_ok-first_row.rest.now c.in_ok-first_row.ensures None
+    c.in_err-label.ensures))
 
 pub returns : goal.returns
 returns c =
-    let f0 : SFits w64 c.in-ok-number.number = search rules in
-    let f1 : SFits w64 c.in-ok-first-row.first_row_lem = search rules in
+    let f0 : SFits w64 c.in_ok-number.number = search rules in
+    let f1 : SFits w64 c.in_ok-first_row.first_row = search rules in
     simp to_z-of_z
-    (first_then c.in-ok-number.number c.in-ok-number.rest.now c.in-ok-number.ensures (Some ((c.in-ok-first-row.first_row_lem, c.in-ok-label.label.now), c.in-ok-label.rest.now))
-    (first_then c.in-ok-first-row.first_row_lem c.in-ok-first-row.rest.now c.in-ok-first-row.ensures (Some (c.in-ok-label.label.now, c.in-ok-label.rest.now))
-    c.in-ok-label.ensures))
+    (first_then c.in_ok-number.number c.in_ok-number.rest.now c.in_ok-number.ensures (Some ((c.in_ok-first_row.first_row, c.in_ok-label.label.now), c.in_ok-label.rest.now))
+    (first_then c.in_ok-first_row.first_row c.in_ok-first_row.rest.now c.in_ok-first_row.ensures (Some (c.in_ok-label.label.now, c.in_ok-label.rest.now))
+    c.in_ok-label.ensures))

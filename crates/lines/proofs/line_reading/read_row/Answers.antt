@@ -7,32 +7,32 @@ use Rattle.text.proofs.Reading.{first_none, first_then}
 use Rattle.lines.specs.Lines.{blank}
 use Rattle.lines.proofs.line_reading.read_row.Goals as goal
 
-pub returns-in-err-number : goal.returns-in-err-number
-returns-in-err-number c =
-    rw c.from-residual.ensures
-    (first_none (Each Small Label) (both blank label_text) c.in-err-number.ensures)
+pub returns-in_err-number : goal.returns-in_err-number
+returns-in_err-number c =
+    rw c.from_residual.ensures
+    (first_none (Each Small Label) (both blank label_text) c.in_err-number.ensures)
 
-pub returns-in-err-first-arc : goal.returns-in-err-first-arc
-returns-in-err-first-arc c =
-    rw c.from-residual-in-err-first-arc.ensures
-    (first_then (c.in-ok-number.number, (c.in-ok-number.next, (c.in-ok-number.first_part, c.in-ok-number.second-part))) c.in-ok-number.rest.now c.in-ok-number.ensures None
-    (first_none Label label_text c.in-err-first-arc.ensures))
+pub returns-in_err-first_arc : goal.returns-in_err-first_arc
+returns-in_err-first_arc c =
+    rw c.from_residual-in_err-first_arc.ensures
+    (first_then (c.in_ok-number.number, (c.in_ok-number.next, (c.in_ok-number.first_part, c.in_ok-number.second_part))) c.in_ok-number.rest.now c.in_ok-number.ensures None
+    (first_none Label label_text c.in_err-first_arc.ensures))
 
-pub returns-in-err-label : goal.returns-in-err-label
-returns-in-err-label c =
-    rw c.from-residual-in-err-label.ensures
-    (first_then (c.in-ok-number.number, (c.in-ok-number.next, (c.in-ok-number.first_part, c.in-ok-number.second-part))) c.in-ok-number.rest.now c.in-ok-number.ensures None
-    (first_then c.in-ok-first-arc.first-arc c.in-ok-first-arc.rest.now c.in-ok-first-arc.ensures None
-    c.in-err-label.ensures))
+pub returns-in_err-label : goal.returns-in_err-label
+returns-in_err-label c =
+    rw c.from_residual-in_err-label.ensures
+    (first_then (c.in_ok-number.number, (c.in_ok-number.next, (c.in_ok-number.first_part, c.in_ok-number.second_part))) c.in_ok-number.rest.now c.in_ok-number.ensures None
+    (first_then c.in_ok-first_arc.first_arc c.in_ok-first_arc.rest.now c.in_ok-first_arc.ensures None
+    c.in_err-label.ensures))
 
 pub returns : goal.returns
 returns c =
-    let f0 : SFits w64 c.in-ok-number.number = search rules in
-    let f1 : SFits w64 c.in-ok-number.next = search rules in
-    let f2 : SFits w64 c.in-ok-number.first_part = search rules in
-    let f3 : SFits w64 c.in-ok-number.second-part = search rules in
-    let f4 : SFits w64 c.in-ok-first-arc.first-arc = search rules in
+    let f0 : SFits w64 c.in_ok-number.number = search rules in
+    let f1 : SFits w64 c.in_ok-number.next = search rules in
+    let f2 : SFits w64 c.in_ok-number.first_part = search rules in
+    let f3 : SFits w64 c.in_ok-number.second_part = search rules in
+    let f4 : SFits w64 c.in_ok-first_arc.first_arc = search rules in
     simp to_z-of_z
-    (first_then (c.in-ok-number.number, (c.in-ok-number.next, (c.in-ok-number.first_part, c.in-ok-number.second-part))) c.in-ok-number.rest.now c.in-ok-number.ensures (Some ((c.in-ok-first-arc.first-arc, c.in-ok-label.label.now), c.in-ok-label.rest.now))
-    (first_then c.in-ok-first-arc.first-arc c.in-ok-first-arc.rest.now c.in-ok-first-arc.ensures (Some (c.in-ok-label.label.now, c.in-ok-label.rest.now))
-    c.in-ok-label.ensures))
+    (first_then (c.in_ok-number.number, (c.in_ok-number.next, (c.in_ok-number.first_part, c.in_ok-number.second_part))) c.in_ok-number.rest.now c.in_ok-number.ensures (Some ((c.in_ok-first_arc.first_arc, c.in_ok-label.label.now), c.in_ok-label.rest.now))
+    (first_then c.in_ok-first_arc.first_arc c.in_ok-first_arc.rest.now c.in_ok-first_arc.ensures (Some (c.in_ok-label.label.now, c.in_ok-label.rest.now))
+    c.in_ok-label.ensures))

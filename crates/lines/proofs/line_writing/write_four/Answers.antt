@@ -6,29 +6,29 @@ use Rattle.text.proofs.Writing.{writes_then, writes_none}
 use Rattle.lines.specs.Lines.{blank}
 use Rattle.lines.proofs.line_writing.write_four.Goals as goal
 
-pub returns-in-err-at : goal.returns-in-err-at
-returns-in-err-at c =
+pub returns-in_err-at : goal.returns-in_err-at
+returns-in_err-at c =
     let f0 : SFits w64 c.args.numbers.0 = search rules in
-    rw c.from-residual.ensures
-    (writes_none c.args.out.now c.args.at (blank c.args.numbers.0) c.write-field.new.out ((blank c.args.numbers.1) ++ ((blank c.args.numbers.2) ++ (number_text (byte_of c.args.end) c.args.numbers.3))) (simp to_z-of_z at c.in-err-at.ensures.text))
+    rw c.from_residual.ensures
+    (writes_none c.args.out.now c.args.at (blank c.args.numbers.0) c.write_field.new.out ((blank c.args.numbers.1) ++ ((blank c.args.numbers.2) ++ (number_text (byte_of c.args.end) c.args.numbers.3))) (simp to_z-of_z at c.in_err-at.ensures.text))
 
-pub returns-in-err-at-2 : goal.returns-in-err-at-2
-returns-in-err-at-2 c =
+pub returns-in_err-at-2 : goal.returns-in_err-at-2
+returns-in_err-at-2 c =
     let f0 : SFits w64 c.args.numbers.0 = search rules in
     let f1 : SFits w64 c.args.numbers.1 = search rules in
-    rw c.from-residual-in-err-at-2.ensures
-    (writes_then c.args.out.now c.args.at (blank c.args.numbers.0) c.write-field.new.out c.in-ok-at.at (simp to_z-of_z at c.in-ok-at.ensures.text) ((blank c.args.numbers.1) ++ ((blank c.args.numbers.2) ++ (number_text (byte_of c.args.end) c.args.numbers.3))) None c.write-field-2.new.out
-    (writes_none c.write-field.new.out c.in-ok-at.at (blank c.args.numbers.1) c.write-field-2.new.out ((blank c.args.numbers.2) ++ (number_text (byte_of c.args.end) c.args.numbers.3)) (simp to_z-of_z at c.in-err-at-2.ensures.text)))
+    rw c.from_residual-in_err-at-2.ensures
+    (writes_then c.args.out.now c.args.at (blank c.args.numbers.0) c.write_field.new.out c.in_ok-at.at (simp to_z-of_z at c.in_ok-at.ensures.text) ((blank c.args.numbers.1) ++ ((blank c.args.numbers.2) ++ (number_text (byte_of c.args.end) c.args.numbers.3))) None c.write_field-2.new.out
+    (writes_none c.write_field.new.out c.in_ok-at.at (blank c.args.numbers.1) c.write_field-2.new.out ((blank c.args.numbers.2) ++ (number_text (byte_of c.args.end) c.args.numbers.3)) (simp to_z-of_z at c.in_err-at-2.ensures.text)))
 
-pub returns-in-err-at-3 : goal.returns-in-err-at-3
-returns-in-err-at-3 c =
+pub returns-in_err-at-3 : goal.returns-in_err-at-3
+returns-in_err-at-3 c =
     let f0 : SFits w64 c.args.numbers.0 = search rules in
     let f1 : SFits w64 c.args.numbers.1 = search rules in
     let f2 : SFits w64 c.args.numbers.2 = search rules in
-    rw c.from-residual-in-err-at-3.ensures
-    (writes_then c.args.out.now c.args.at (blank c.args.numbers.0) c.write-field.new.out c.in-ok-at.at (simp to_z-of_z at c.in-ok-at.ensures.text) ((blank c.args.numbers.1) ++ ((blank c.args.numbers.2) ++ (number_text (byte_of c.args.end) c.args.numbers.3))) None c.write-field-3.new.out
-    (writes_then c.write-field.new.out c.in-ok-at.at (blank c.args.numbers.1) c.write-field-2.new.out c.in-ok-at-2.at (simp to_z-of_z at c.in-ok-at-2.ensures.text) ((blank c.args.numbers.2) ++ (number_text (byte_of c.args.end) c.args.numbers.3)) None c.write-field-3.new.out
-    (writes_none c.write-field-2.new.out c.in-ok-at-2.at (blank c.args.numbers.2) c.write-field-3.new.out (number_text (byte_of c.args.end) c.args.numbers.3) (simp to_z-of_z at c.in-err-at-3.ensures.text))))
+    rw c.from_residual-in_err-at-3.ensures
+    (writes_then c.args.out.now c.args.at (blank c.args.numbers.0) c.write_field.new.out c.in_ok-at.at (simp to_z-of_z at c.in_ok-at.ensures.text) ((blank c.args.numbers.1) ++ ((blank c.args.numbers.2) ++ (number_text (byte_of c.args.end) c.args.numbers.3))) None c.write_field-3.new.out
+    (writes_then c.write_field.new.out c.in_ok-at.at (blank c.args.numbers.1) c.write_field-2.new.out c.in_ok-at-2.at (simp to_z-of_z at c.in_ok-at-2.ensures.text) ((blank c.args.numbers.2) ++ (number_text (byte_of c.args.end) c.args.numbers.3)) None c.write_field-3.new.out
+    (writes_none c.write_field-2.new.out c.in_ok-at-2.at (blank c.args.numbers.2) c.write_field-3.new.out (number_text (byte_of c.args.end) c.args.numbers.3) (simp to_z-of_z at c.in_err-at-3.ensures.text))))
 
 pub returns : goal.returns
 returns c =
@@ -36,7 +36,7 @@ returns c =
     let f1 : SFits w64 c.args.numbers.1 = search rules in
     let f2 : SFits w64 c.args.numbers.2 = search rules in
     let f3 : SFits w64 c.args.numbers.3 = search rules in
-    (writes_then c.args.out.now c.args.at (blank c.args.numbers.0) c.write-field.new.out c.in-ok-at.at (simp to_z-of_z at c.in-ok-at.ensures.text) ((blank c.args.numbers.1) ++ ((blank c.args.numbers.2) ++ (number_text (byte_of c.args.end) c.args.numbers.3))) c.write-field-4.result c.write-field-4.new.out
-    (writes_then c.write-field.new.out c.in-ok-at.at (blank c.args.numbers.1) c.write-field-2.new.out c.in-ok-at-2.at (simp to_z-of_z at c.in-ok-at-2.ensures.text) ((blank c.args.numbers.2) ++ (number_text (byte_of c.args.end) c.args.numbers.3)) c.write-field-4.result c.write-field-4.new.out
-    (writes_then c.write-field-2.new.out c.in-ok-at-2.at (blank c.args.numbers.2) c.write-field-3.new.out c.in-ok-at-3.at (simp to_z-of_z at c.in-ok-at-3.ensures.text) (number_text (byte_of c.args.end) c.args.numbers.3) c.write-field-4.result c.write-field-4.new.out
-    (simp to_z-of_z at c.write-field-4.ensures.text))))
+    (writes_then c.args.out.now c.args.at (blank c.args.numbers.0) c.write_field.new.out c.in_ok-at.at (simp to_z-of_z at c.in_ok-at.ensures.text) ((blank c.args.numbers.1) ++ ((blank c.args.numbers.2) ++ (number_text (byte_of c.args.end) c.args.numbers.3))) c.write_field-4.result c.write_field-4.new.out
+    (writes_then c.write_field.new.out c.in_ok-at.at (blank c.args.numbers.1) c.write_field-2.new.out c.in_ok-at-2.at (simp to_z-of_z at c.in_ok-at-2.ensures.text) ((blank c.args.numbers.2) ++ (number_text (byte_of c.args.end) c.args.numbers.3)) c.write_field-4.result c.write_field-4.new.out
+    (writes_then c.write_field-2.new.out c.in_ok-at-2.at (blank c.args.numbers.2) c.write_field-3.new.out c.in_ok-at-3.at (simp to_z-of_z at c.in_ok-at-3.ensures.text) (number_text (byte_of c.args.end) c.args.numbers.3) c.write_field-4.result c.write_field-4.new.out
+    (simp to_z-of_z at c.write_field-4.ensures.text))))

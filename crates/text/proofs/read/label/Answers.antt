@@ -4,9 +4,9 @@ use Rattle.text.proofs.Reading.{refused}
 use Rattle.text.proofs.Labels.{label_met, label_found}
 use Rattle.text.proofs.read.label.Goals as goal
 
-pub returns-then-not-label-fits : goal.returns-then-not-label-fits
-returns-then-not-label-fits c =
-    refused (λ ls rest s e. let h = label_met c.run-n.ensures ls rest s e in ⊎_elim (λ none. omega arith) (λ more. omega arith) c.if-not-label-fits.ensures)
+pub returns-then-not-label_fits : goal.returns-then-not-label_fits
+returns-then-not-label_fits c =
+    refused (λ ls rest s e. let h = label_met c.run-n.ensures ls rest s e in ⊎_elim (λ none. omega arith) (λ more. omega arith) c.if-not-label_fits.ensures)
 
 pub returns-then-n-bytes : goal.returns-then-n-bytes
 returns-then-n-bytes c = refused (λ ls rest s e. let h = label_met c.run-n.ensures ls rest s e in omega arith)

@@ -6,9 +6,9 @@ use Rattle.text.proofs.Numbers.{ends, met, found, run_numeral}
 use Rattle.text.proofs.read.natural.Goals as goal
 use Rattle.text.proofs.read.natural.Goals.{else-n-gt1-via-then-n-gt1+else-bytes-eq48, else-n-gt1-via-else-n-gt1}
 
-pub returns-then-not-digits-fit : goal.returns-then-not-digits-fit
-returns-then-not-digits-fit c =
-    refused (λ m rest s e. let h = met c.run-n.ensures (ends c.args.end) m rest s e in ⊎_elim (λ none. omega arith) (λ more. omega arith) c.if-not-digits-fit.ensures)
+pub returns-then-not-digits_fit : goal.returns-then-not-digits_fit
+returns-then-not-digits_fit c =
+    refused (λ m rest s e. let h = met c.run-n.ensures (ends c.args.end) m rest s e in ⊎_elim (λ none. omega arith) (λ more. omega arith) c.if-not-digits_fit.ensures)
 
 pub returns-then-bytes-eq48 : goal.returns-then-bytes-eq48
 returns-then-bytes-eq48 c = refused (λ m rest s e. let h = met c.run-n.ensures (ends c.args.end) m rest s e in h.front (omega arith) (omega arith))

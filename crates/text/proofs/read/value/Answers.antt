@@ -6,8 +6,8 @@ use Rattle.std.proofs.lemmas.Str.Parse.{digit_at}
 use Rattle.text.proofs.Numbers.{digit_is}
 use Rattle.text.proofs.read.value.Goals as goal
 
-pub overflow-sub-v : goal.overflow-sub-v
-overflow-sub-v c = (digit_at c.args.digits.now c.loop-b.b-index c.requires.1 (omega arith)).0
+pub overflow_sub-v : goal.overflow_sub-v
+overflow_sub-v c = (digit_at c.args.digits.now c.loop-b.b-index c.requires.1 (omega arith)).0
 
 pub loop-b-preserved : goal.loop-b-preserved
 loop-b-preserved c =

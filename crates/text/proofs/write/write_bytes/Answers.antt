@@ -8,4 +8,4 @@ returns c =
     let bs = c.args.bytes.now in
     let at = c.args.at in
     let same : at + length bs - at ≡ length bs = omega arith in
-    (refl, omega arith, (λ i. take at xs ++ (c.copy-from-slice.ensures.after i ++ drop (same i) (drop at xs))) ∙ ap (λ l. take at xs ++ (bs ++ l)) (drop-drop (length bs) at xs))
+    (refl, omega arith, (λ i. take at xs ++ (c.copy_from_slice.ensures.after i ++ drop (same i) (drop at xs))) ∙ ap (λ l. take at xs ++ (bs ++ l)) (drop-drop (length bs) at xs))
