@@ -1,7 +1,6 @@
 //! Sheets: a table as text, with or without figures, read and written.
 #![tactic(auto)]
 
-
 mod arc_reading;
 mod figure_reading;
 mod grade_reading;

@@ -13,7 +13,7 @@ use table::{MAX_COST_PART, MAX_ROWS, Row};
 
 /// What the line says of its row, where all of that is in range.
 fn row_of(line: &RowLine<'_>, header: &Header) -> Option<Row>
-    ensures* { λ r. ⌜ elim r [ Some r ↦ RowSaid header.now.rows header.now.arcs line.now r | None ↦ (i : ℕ) → Ranged (counts_of header.now) (row i) (row_of line.now) → ⊥ ] ⌝ }
+    ensures { elim result [ Some r ↦ RowSaid header.now.rows header.now.arcs line.now r | None ↦ (i : ℕ) → Ranged (counts_of header.now) (row i) (row_of line.now) → ⊥ ] }
 {
     let next = count(line.next, 0, header.rows)?;
     if !near(line.first_part, MAX_COST_PART) || !near(line.second_part, MAX_COST_PART) {

@@ -7,16 +7,16 @@ use Rattle.sheet.proofs.ArcSteps.{arc_told}
 use Rattle.sheet.proofs.Halting.{wrong}
 use Rattle.sheet.proofs.arc_reading.arc_line.Goals as goal
 
-pub returns-in-Some-arc-of : goal.returns-in-Some-arc-of
-returns-in-Some-arc-of c =
+pub returns-in-Some-arc_of : goal.returns-in-Some-arc_of
+returns-in-Some-arc_of c =
     let sheet = c.args.sheet.now in
     let t = c.in-Some.text in
     let next = c.in-Some.next in
     let told = c.in-Some.ensures in
-    let said = c.in-Some-arc-of.ensures in
+    let said = c.in-Some-arc_of.ensures in
     let h = c.args.header.now in
     let number : t.number ≡ pos (c.args.i + 1) = omega (arith, ints) in
-    arc_told sheet c.args.at next c.args.i h.grades h.arcs h.total c.in-Some-arc-of.arc t.number t.next t.destination t.weight
+    arc_told sheet c.args.at next c.args.i h.grades h.arcs h.total c.in-Some-arc_of.arc t.number t.next t.destination t.weight
     (told.reads.was (arc_of t) (drop next sheet) refl)
     number said.next said.destination said.weight said.ranged told.place.1
 

@@ -12,22 +12,22 @@ loop-i-init c =
 pub loop-i-preserved : goal.loop-i-preserved
 loop-i-preserved c =
     let inv = c.loop-i.invariant in
-    let read = c.in-ok-read in
+    let read = c.in_ok-read in
     let h = c.args.header.now in (
       simp length-set inv.0,
       arcs_more c.args.sheet.now c.args.at c.loop-i.at c.loop-i.i h.grades h.arcs h.total c.loop-i.arc read.read read.next (omega arith) inv.1 read.ensures,
     )
 
-pub returns-in-err-read : goal.returns-in-err-read
-returns-in-err-read c =
+pub returns-in_err-read : goal.returns-in_err-read
+returns-in_err-read c =
     let sheet = c.args.sheet.now in
     let h = c.args.header.now in
     let i = c.loop-i.i in
-    rw (err_is _ _ c.from-residual.ensures.1)
+    rw (err_is _ _ c.from_residual.ensures.1)
     (record {
       i = i;
       below = omega arith;
       rest = drop c.loop-i.at sheet;
       through = arcs_through (counts_of h) (counted h) sheet c.args.at i c.loop-i.at c.loop-i.arc (omega arith) c.loop-i.invariant.1;
-      faulty = c.in-err-read.ensures;
+      faulty = c.in_err-read.ensures;
     })

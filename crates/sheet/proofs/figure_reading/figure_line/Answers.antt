@@ -7,14 +7,14 @@ use Rattle.sheet.proofs.FigureSteps.{figure_told}
 use Rattle.sheet.proofs.Halting.{wrong}
 use Rattle.sheet.proofs.figure_reading.figure_line.Goals as goal
 
-pub returns-in-Some-figure-of : goal.returns-in-Some-figure-of
-returns-in-Some-figure-of c =
+pub returns-in-Some-figure_of : goal.returns-in-Some-figure_of
+returns-in-Some-figure_of c =
     let sheet = c.args.sheet.now in
     let t = c.in-Some.text in
     let next = c.in-Some.next in
     let told = c.in-Some.ensures in
-    let f = c.in-Some-figure-of.figure in
-    let said = c.in-Some-figure-of.ensures in
+    let f = c.in-Some-figure_of.figure in
+    let said = c.in-Some-figure_of.ensures in
     let number : t.grade ≡ pos (c.args.i + 1) = omega (arith, ints) in
     figure_told sheet c.args.at next c.args.i c.args.header.now.rows f.row f.floor f.ceiling t.grade t.row t.floor_first t.floor_second t.ceiling_first t.ceiling_second
     (told.reads.was (figure_of t) (drop next sheet) refl)

@@ -16,8 +16,8 @@ returns c =
     let counted = c.in-Some-count.ensures in
     let fits : SFits w64 g.first_row = search rules in
     let number : g.number ≡ pos (c.args.i + 1) = omega (arith, ints) in
-    let row : g.first_row ≡ pos c.in-Some-count.first_row_lem = simp to_z-of_z at counted.0 in
-    grade_told sheet c.args.at next c.args.i c.args.header.now.rows c.in-Some-count.first_row_lem g.number g.first_row g.label.now
+    let row : g.first_row ≡ pos c.in-Some-count.first_row = simp to_z-of_z at counted.0 in
+    grade_told sheet c.args.at next c.args.i c.args.header.now.rows c.in-Some-count.first_row g.number g.first_row g.label.now
     (told.reads.was (grade_of g) (drop next sheet) refl)
     number row counted.1 told.place.0 told.place.1 told.place.2
 
@@ -30,13 +30,13 @@ returns-then-grade-i c =
     (c.in-Some.ensures.reads.was (grade_of g) (drop next sheet) refl)
     (λ r. omega (arith, ints, r.0))
 
-pub returns-in-default-count : goal.returns-in-default-count
-returns-in-default-count c =
+pub returns-in_default-count : goal.returns-in_default-count
+returns-in_default-count c =
     let sheet = c.args.sheet.now in
     let g = c.in-Some.grade in
     let next = c.in-Some.next in
     let fits : SFits w64 g.first_row = search rules in
-    let none = c.in-default-count.ensures in
+    let none = c.in_default-count.ensures in
     wrong (counts_of c.args.header.now) (grade c.args.i) (grade_of g) c.args.line (drop c.args.at sheet) (drop next sheet)
     (c.in-Some.ensures.reads.was (grade_of g) (drop next sheet) refl)
     (λ r. none r.1.0 (simp to_z-of_z r.1.1) r.1.2)

@@ -10,22 +10,22 @@ loop-i-init c = (search rules, search rules, grades_none c.args.sheet.now c.args
 pub loop-i-preserved : goal.loop-i-preserved
 loop-i-preserved c =
     let inv = c.loop-i.invariant in
-    let read = c.in-ok-first in (
+    let read = c.in_ok-first in (
       simp length-set inv.0,
       simp length-set inv.1,
-      grades_more c.args.sheet.now c.args.at c.loop-i.at c.loop-i.i c.args.header.now.rows c.loop-i.first_row_lem c.loop-i.label read.first read.span read.next (omega arith) (omega arith) inv.2 read.ensures,
+      grades_more c.args.sheet.now c.args.at c.loop-i.at c.loop-i.i c.args.header.now.rows c.loop-i.first_row c.loop-i.label read.first read.span read.next (omega arith) (omega arith) inv.2 read.ensures,
     )
 
-pub returns-in-err-first : goal.returns-in-err-first
-returns-in-err-first c =
+pub returns-in_err-first : goal.returns-in_err-first
+returns-in_err-first c =
     let sheet = c.args.sheet.now in
     let h = c.args.header.now in
     let i = c.loop-i.i in
-    rw (err_is _ _ c.from-residual.ensures.1)
+    rw (err_is _ _ c.from_residual.ensures.1)
     (record {
       i = i;
       below = omega arith;
       rest = drop c.loop-i.at sheet;
-      through = grades_through (counts_of h) (counted h) sheet c.args.at i c.loop-i.at c.loop-i.first_row_lem c.loop-i.label (omega arith) c.loop-i.invariant.2;
-      faulty = c.in-err-first.ensures;
+      through = grades_through (counts_of h) (counted h) sheet c.args.at i c.loop-i.at c.loop-i.first_row c.loop-i.label (omega arith) c.loop-i.invariant.2;
+      faulty = c.in_err-first.ensures;
     })

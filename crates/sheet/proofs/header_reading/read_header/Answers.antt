@@ -3,12 +3,12 @@ use Rattle.lines.specs.Lines.{header_of}
 use Rattle.sheet.proofs.HeaderSteps.{header_told}
 use Rattle.sheet.proofs.header_reading.read_header.Goals as goal
 
-pub returns-in-Some-header-of : goal.returns-in-Some-header-of
-returns-in-Some-header-of c =
+pub returns-in-Some-header_of : goal.returns-in-Some-header_of
+returns-in-Some-header_of c =
     let sheet = c.args.sheet.now in
     let next = c.in-Some.next in
     let told = c.in-Some.ensures in
-    header_told sheet next c.in-Some.line _ _ _ _ _ _ _ _ c.in-Some-header-of.ensures told.place.1 (told.reads.was (header_of c.in-Some.line) (drop next sheet) refl).1
+    header_told sheet next c.in-Some.line _ _ _ _ _ _ _ _ c.in-Some-header_of.ensures told.place.1 (told.reads.was (header_of c.in-Some.line) (drop next sheet) refl).1
 
 pub returns-in-None : goal.returns-in-None
 returns-in-None c =

@@ -11,12 +11,12 @@ returns-in-Arc c =
       place = (told.place.0, told.place.1);
     }
 
-pub returns-in-default : goal.returns-in-default
-returns-in-default c =
+pub returns-in_default : goal.returns-in_default
+returns-in_default c =
     let told = c.in-Ok.ensures in
     let sheet = c.args.sheet.now in
     record {
-      reads = arc_not (drop c.args.at sheet) (drop c.in-Ok.next sheet) c.in-Ok.line c.in-default.not-Arc told.reads;
+      reads = arc_not (drop c.args.at sheet) (drop c.in-Ok.next sheet) c.in-Ok.line c.in_default.not-Arc told.reads;
       place = tt;
     }
 

@@ -10,10 +10,10 @@ returns-in-End c =
     let sheet = c.args.sheet.now in
     (told.place.1, end_is (drop c.args.at sheet) (drop c.in-Ok.next sheet) c.in-Ok.line c.in-End.is told.reads)
 
-pub returns-in-default : goal.returns-in-default
-returns-in-default c =
+pub returns-in_default : goal.returns-in_default
+returns-in_default c =
     let sheet = c.args.sheet.now in
-    end_not (drop c.args.at sheet) (drop c.in-Ok.next sheet) c.in-Ok.line c.in-default.not-End c.in-Ok.ensures.reads
+    end_not (drop c.args.at sheet) (drop c.in-Ok.next sheet) c.in-Ok.line c.in_default.not-End c.in-Ok.ensures.reads
 
 pub returns-in-Err : goal.returns-in-Err
 returns-in-Err c = λ rest e. not_some (c.in-Err.ensures.reads.must end rest tt e)

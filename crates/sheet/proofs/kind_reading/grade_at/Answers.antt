@@ -12,12 +12,12 @@ returns-in-Grade c =
       place = (told.place.0, told.place.1, subst (λ l. length (label_of l) + 1 + c.args.at ≤ c.in-Ok.next) c.in-Grade.is told.place.2);
     }
 
-pub returns-in-default : goal.returns-in-default
-returns-in-default c =
+pub returns-in_default : goal.returns-in_default
+returns-in_default c =
     let told = c.in-Ok.ensures in
     let sheet = c.args.sheet.now in
     record {
-      reads = grade_not (drop c.args.at sheet) (drop c.in-Ok.next sheet) c.in-Ok.line c.in-default.not-Grade told.reads;
+      reads = grade_not (drop c.args.at sheet) (drop c.in-Ok.next sheet) c.in-Ok.line c.in_default.not-Grade told.reads;
       place = tt;
     }
 

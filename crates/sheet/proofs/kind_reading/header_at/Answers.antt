@@ -11,12 +11,12 @@ returns-in-Header c =
       place = (told.place.0, told.place.1);
     }
 
-pub returns-in-default : goal.returns-in-default
-returns-in-default c =
+pub returns-in_default : goal.returns-in_default
+returns-in_default c =
     let told = c.in-Ok.ensures in
     let sheet = c.args.sheet.now in
     record {
-      reads = header_not (drop c.args.at sheet) (drop c.in-Ok.next sheet) c.in-Ok.line c.in-default.not-Header told.reads;
+      reads = header_not (drop c.args.at sheet) (drop c.in-Ok.next sheet) c.in-Ok.line c.in_default.not-Header told.reads;
       place = tt;
     }
 

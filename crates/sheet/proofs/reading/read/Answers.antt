@@ -4,6 +4,6 @@ use Rattle.sheet.proofs.reading.read.Goals as goal
 pub returns : goal.returns
 returns c =
     let sheet = c.args.sheet.now in
-    let r = c.read-sheet.result in
-    let answered = c.read-sheet.ensures in
+    let r = c.read_sheet.result in
+    let answered = c.read_sheet.ensures in
     record { answered = answered; once = read_once sheet r answered; exactly = read_exactly sheet r answered }

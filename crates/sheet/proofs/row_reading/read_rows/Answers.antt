@@ -10,23 +10,23 @@ loop-i-init c = (search rules, search rules, rows_none c.args.sheet.now c.args.a
 pub loop-i-preserved : goal.loop-i-preserved
 loop-i-preserved c =
     let inv = c.loop-i.invariant in
-    let read = c.in-ok-read in
+    let read = c.in_ok-read in
     let h = c.args.header.now in (
       simp length-set inv.0,
       simp length-set inv.1,
       rows_more c.args.sheet.now c.args.at c.loop-i.at c.loop-i.i h.rows h.arcs c.loop-i.row c.loop-i.label read.read read.span read.next (omega arith) (omega arith) inv.2 read.ensures,
     )
 
-pub returns-in-err-read : goal.returns-in-err-read
-returns-in-err-read c =
+pub returns-in_err-read : goal.returns-in_err-read
+returns-in_err-read c =
     let sheet = c.args.sheet.now in
     let h = c.args.header.now in
     let i = c.loop-i.i in
-    rw (err_is _ _ c.from-residual.ensures.1)
+    rw (err_is _ _ c.from_residual.ensures.1)
     (record {
       i = i;
       below = omega arith;
       rest = drop c.loop-i.at sheet;
       through = rows_through (counts_of h) (counted h) sheet c.args.at i c.loop-i.at c.loop-i.row c.loop-i.label (omega arith) c.loop-i.invariant.2;
-      faulty = c.in-err-read.ensures;
+      faulty = c.in_err-read.ensures;
     })

@@ -13,10 +13,10 @@ returns c =
     let t = c.in-Some.text in
     let next = c.in-Some.next in
     let told = c.in-Some.ensures in
-    let said = c.in-Some-row-of.ensures in
+    let said = c.in-Some-row_of.ensures in
     let h = c.args.header.now in
     let number : t.number ≡ pos (c.args.i + 1) = omega (arith, ints) in
-    row_told sheet c.args.at next c.args.i h.rows h.arcs c.in-Some-row-of.row t.number t.next t.first_part t.second_part t.first_arc t.label.now
+    row_told sheet c.args.at next c.args.i h.rows h.arcs c.in-Some-row_of.row t.number t.next t.first_part t.second_part t.first_arc t.label.now
     (told.reads.was (row_of t) (drop next sheet) refl)
     number said.next said.one said.two said.arc said.ranged told.place.0 told.place.1 told.place.2
 
@@ -29,11 +29,11 @@ returns-then-text-i c =
     (c.in-Some.ensures.reads.was (row_of t) (drop next sheet) refl)
     (λ r. omega (arith, ints, r.0))
 
-pub returns-in-default-row-of : goal.returns-in-default-row-of
-returns-in-default-row-of c =
+pub returns-in_default-row_of : goal.returns-in_default-row_of
+returns-in_default-row_of c =
     let sheet = c.args.sheet.now in
     let t = c.in-Some.text in
     let next = c.in-Some.next in
     wrong (counts_of c.args.header.now) (row c.args.i) (row_of t) c.args.line (drop c.args.at sheet) (drop next sheet)
     (c.in-Some.ensures.reads.was (row_of t) (drop next sheet) refl)
-    (c.in-default-row-of.ensures c.args.i)
+    (c.in_default-row_of.ensures c.args.i)

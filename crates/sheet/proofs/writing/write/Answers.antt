@@ -29,12 +29,12 @@ returns c =
         record { reads = c.in-Ok.ensures; grades = omega arith; rows = omega arith },
         omega (arith, told.0),
         omega arith,
-        copied c.args.out.now _ _ (relabelled c.args.old.now c.args.table.now c.args.figures.now s) c.copy-from-slice.new.self c.in-Some.n told c.copy-from-slice.ensures.after,
+        copied c.args.out.now _ _ (relabelled c.args.old.now c.args.table.now c.args.figures.now s) c.copy_from_slice.new.self c.in-Some.n told c.copy_from_slice.ensures.after,
       ),
     )
 
 pub returns-in-Err : goal.returns-in-Err
-returns-in-Err c = (inl (_, (c.in-Err.ensures, c.line-of.ensures)), refl)
+returns-in-Err c = (inl (_, (c.in-Err.ensures, c.line_of.ensures)), refl)
 
 pub returns-then-sheet-table : goal.returns-then-sheet-table
 returns-then-sheet-table c = (inr (c.in-Ok.sheet, (record { reads = c.in-Ok.ensures; differs = λ p q. elim c.then-sheet-table.branch [ then-sheet-table-via-then-sheet-table w ↦ w.if-sheet-table.true p | then-sheet-table-via-else-sheet-table+then-sheet-table-2 w ↦ w.if-sheet-table-2.true q ] }, refl)), refl)

@@ -7,13 +7,13 @@ use Rattle.sheet.proofs.writing.write_arcs.Goals as goal
 pub loop-i-init : goal.loop-i-init
 loop-i-init c = writes_nothing c.args.out.now c.args.at c.requires
 
-pub returns-in-err-at : goal.returns-in-err-at
-returns-in-err-at c =
+pub returns-in_err-at : goal.returns-in_err-at
+returns-in_err-at c =
     let g : ℕ → Entry = λ i. arc_entry c.args.table.now.arc i in
-    rw c.from-residual.ensures
-    (line_short g c.args.out.now c.args.at c.loop-i.i c.loop-i.at c.loop-i.out c.loop-i.invariant _ c.arc_line.ensures c.args.table.now.arcs _ (omega arith) c.in-err-at.ensures)
+    rw c.from_residual.ensures
+    (line_short g c.args.out.now c.args.at c.loop-i.i c.loop-i.at c.loop-i.out c.loop-i.invariant _ c.arc_line.ensures c.args.table.now.arcs _ (omega arith) c.in_err-at.ensures)
 
 pub loop-i-preserved : goal.loop-i-preserved
 loop-i-preserved c =
     let g : ℕ → Entry = λ i. arc_entry c.args.table.now.arc i in
-    line_more g c.args.out.now c.args.at c.loop-i.i c.loop-i.at c.loop-i.out c.loop-i.invariant _ c.arc_line.ensures (Some c.in-ok-at.at) _ c.in-ok-at.ensures
+    line_more g c.args.out.now c.args.at c.loop-i.i c.loop-i.at c.loop-i.out c.loop-i.invariant _ c.arc_line.ensures (Some c.in_ok-at.at) _ c.in_ok-at.ensures
