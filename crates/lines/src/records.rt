@@ -23,7 +23,7 @@ pub struct GradeLine<'a> {
     pub label: &'a [u8],
 }
 
-/// `r number next first_part second-part first-arc label`
+/// `r number next first-part second-part first-arc label`
 #[derive(Clone, Copy)]
 pub struct RowLine<'a> {
     pub number: i64,
