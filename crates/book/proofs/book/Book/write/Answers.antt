@@ -4,4 +4,4 @@ use Rattle.book.proofs.book.Book.write.Goals as goal
 
 pub returns-in-Ok : goal.returns-in-Ok
 returns-in-Ok g c =
-    subst (λ p. Written c.args.figured c.args.old.now p c.args.out.now (Ok c.in-Ok.length) c.write-page.new.out) (sym c.in-Some.is) c.in-Ok.ensures.wrote
+    subst (λ p. Written c.args.figured c.args.old.now p c.args.out.now (Ok c.in-Ok.length) c.write_page.new.out) (sym c.in-Some.is) c.in-Ok.ensures.wrote
