@@ -1,7 +1,6 @@
 //! Sheets, whole and damaged, and what a recount answers to them: a crate of tests.
 #![tactic(auto)]
 
-
 #[cfg(test)]
 mod answers;
 #[cfg(test)]

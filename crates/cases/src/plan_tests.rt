@@ -3,6 +3,7 @@ use crate::plans::*;
 use crate::shops::*;
 use planner::{improve_once, improve_rounds, take_filing};
 use rankings::{Money, MoneyThenMinutes, Weighed};
+use std::test::Fail;
 use table::{FiledLine, check_filing};
 
 #[test]

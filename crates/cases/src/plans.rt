@@ -12,7 +12,7 @@ use table::{FiguresFault, FiledLine, FilingFault, MAX_GRADES, Page, check_table}
 
 /// The page that plans for the sheet's table start from; a test fails where the sheet has a fault.
 pub(crate) fn started<R: Ranking>(ranking: &R, text: &[u8]) -> Result<Page, Fail>
-    ensures { elim result [ Ok p ↦ Start (ranks ranking.now) p | Err _ ↦ Unit {0} ] }
+    ensures { elim result [ Ok p ↦ Start (R.ranks ranking.now) p | Err _ ↦ Unit {0} ] }
 {
     let Ok(sheet) = read(text) else {
         return Err(Fail::new("the text is refused"));

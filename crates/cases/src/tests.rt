@@ -8,6 +8,7 @@ use rankings::Money;
 use sheet::read;
 use std::alloc::Global;
 use std::process::Abort;
+use std::test::Fail;
 
 #[test]
 fn shops_recounted(rt: HostRuntime) {

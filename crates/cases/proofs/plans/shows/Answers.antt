@@ -10,7 +10,7 @@ loop-k-preserved c =
     let f = c.args.page.now.figures in
     let ls = c.args.lines.now in
     let k = c.loop-k.k in
-    below_more _ k c.loop-k.invariant (subst (λ b. Owed b (LineShown f (get_or ls k line0) k)) c.if-not-shows-line.false c.shows-line.ensures)
+    below_more _ k c.loop-k.invariant (subst (λ b. Owed b (LineShown f (get_or ls k line0) k)) c.if-not-shows_line.false c.shows_line.ensures)
 
 pub returns : goal.returns
 returns c = λ j h. c.loop-k.invariant j (omega arith)
