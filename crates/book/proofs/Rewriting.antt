@@ -1,5 +1,5 @@
 -- What a sheet opens to can always be written over it. Assumes nothing.
-use Rattle.std.proofs.Common.{◌≡◌, ℕ, ◌<◌, ◌≤◌, Bool, List, length, Some, Err, sym, ap, ◌∙◌, subst, ⊎_elim, arith}
+use Rattle.std.proofs.Common.{◌≡◌, ℕ, ◌<◌, Bool, List, length, Some, Err, sym, ap, ◌∙◌, subst, ⊎_elim, arith}
 use Rattle.rankings.specs.Costs.{Cost}
 use Rattle.text.specs.Fields.{Label}
 use Rattle.table.specs.declared.page.Page.{Page}

@@ -1,6 +1,6 @@
 -- X is in range where figures are, and no dearer where they are no dearer. Assumes nothing.
-use Rattle.std.proofs.Common.{◌≡◌, ℕ, ◌+◌, ◌-◌, ◌*◌, ◌^◌, ◌≤◌, Bool, true, List, [], ◌∷◌, sym, refl, ap, ◌∙◌, subst, arith}
-use Rattle.rankings.specs.Costs.{Cost, plus, times, zero, Within as Sized, Modest}
+use Rattle.std.proofs.Common.{◌≡◌, ℕ, ◌+◌, ◌-◌, ◌*◌, ◌^◌, Bool, true, List, [], ◌∷◌, subst, arith}
+use Rattle.rankings.specs.Costs.{Cost, plus, times, Within as Sized}
 use Rattle.rankings.specs.Laws.{Ordered, Linear}
 use Rattle.rankings.proofs.Derived.{adds_left, scales_any}
 use Rattle.rankings.proofs.Sizes.{within_more, plus_within, times_within}

@@ -1,9 +1,8 @@
 -- The laws of the weighted sum over arcs. Assumes nothing.
-use Rattle.std.proofs.Common.{◌≡◌, ℕ, zero as none, suc, ◌+◌, ◌*◌, ◌^◌, Bool, true, List, [], ◌∷◌, sym, refl, ap, ◌∙◌, mul_assoc, mul_comm, pow-suc, mul_left_comm}
-use native.Mathlib.Nat.{pow-zero}
+use Rattle.std.proofs.Common.{◌≡◌, ℕ, Bool, true, List, [], ◌∷◌, sym, ap, ◌∙◌}
 use Rattle.rankings.specs.Costs.{Cost, plus, times, zero}
 use Rattle.rankings.specs.Laws.{Ordered, Linear}
-use Rattle.rankings.specs.Algebra.{plus_comm, plus_assoc, plus_zero, zero_plus, times_plus, sum_times, product_times, times_swap, zero_times, times_zero}
+use Rattle.rankings.specs.Algebra.{plus_comm, plus_assoc, zero_plus, times_plus, sum_times, times_swap, zero_times, times_zero}
 use Rattle.rankings.proofs.Derived.{reflexive, adds_both, scales_any}
 use Rattle.table.specs.declared.table.Table.{Table}
 use Rattle.table.specs.Ranges.{Within}

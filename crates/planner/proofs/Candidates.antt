@@ -1,5 +1,5 @@
 -- The cheapest and the dearest of zero and all row costs. Assumes nothing.
-use Rattle.std.proofs.Common.{◌≡◌, ℕ, zero as none, suc, ◌+◌, ◌≤◌, Bool, true, false, cond, List, [], ◌∷◌, sym, refl, ap, ◌∙◌, subst, ⊎_elim, arith}
+use Rattle.std.proofs.Common.{◌≡◌, ℕ, zero as none, suc, ◌+◌, ◌≤◌, Bool, cond, List, [], ◌∷◌, sym, refl, ap, ◌∙◌, subst, ⊎_elim, arith}
 use Rattle.std.proofs.lemmas.Bool.{cases_Bool, cond-true, cond-false}
 use Rattle.rankings.specs.Choice.{FirstCheapest}
 use Rattle.rankings.specs.Costs.{Cost, zero}
@@ -7,7 +7,7 @@ use Rattle.rankings.specs.Laws.{Ordered}
 use Rattle.rankings.proofs.Firsts.{alone, stays, moves}
 use Rattle.table.specs.declared.table.Table.{Table}
 use Rattle.table.specs.Chains.{row_at}
-use Rattle.planner.specs.Start.{costs_from, row_costs, cheapest_among, dearest_among, cheapest_cost, dearest_cost, candidate, Extremes}
+use Rattle.planner.specs.Start.{costs_from, row_costs, cheapest_among, dearest_among, candidate, Extremes}
 
 -- the other way round
 flipped : {le : Cost → Cost → Bool} → Ordered le → Ordered (λ a b. le b a)

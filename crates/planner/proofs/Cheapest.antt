@@ -1,5 +1,5 @@
 -- The cheapest row so far, along a grade's chain. Assumes nothing.
-use Rattle.std.proofs.Common.{◌≡◌, ℕ, ◌+◌, ◌-◌, Bool, true, false, cond, leb, List, [], ◌∷◌, Some, None, sym, refl, ap, ◌∙◌, arith}
+use Rattle.std.proofs.Common.{◌≡◌, ℕ, ◌+◌, ◌-◌, Bool, true, leb, Some, None, sym, ap, ◌∙◌, arith}
 use Rattle.std.proofs.lemmas.Bool.{and_from, le-leb, cond-true, cond_both}
 use Rattle.rankings.specs.Costs.{Cost, Within as Sized}
 use Rattle.table.specs.declared.table.Table.{Table}

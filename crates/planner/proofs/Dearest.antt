@@ -1,5 +1,5 @@
 -- The dearest of several costs is no cheaper than each. Assumes nothing.
-use Rattle.std.proofs.Common.{◌≡◌, ℕ, zero as none, suc, ◌<◌, ◌≤◌, Bool, true, false, cond, List, [], ◌∷◌, ◌++◌, sym, refl, ap, ◌∙◌, subst, ⊎_elim, arith}
+use Rattle.std.proofs.Common.{◌≡◌, ℕ, zero as none, suc, Bool, true, cond, List, [], ◌∷◌, ◌++◌, sym, subst, ⊎_elim, arith}
 use Rattle.std.proofs.lemmas.Bool.{cases_Bool, cases_lt, cond-true, cond-false}
 use Rattle.rankings.specs.Costs.{Cost, zero}
 use Rattle.rankings.specs.Laws.{Ordered}

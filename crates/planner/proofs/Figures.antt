@@ -1,13 +1,13 @@
 -- Floors bound every policy, and ceilings the plan. Assumes nothing.
-use Rattle.std.proofs.Common.{◌≡◌, ℕ, zero as none, suc, ◌+◌, ◌-◌, ◌*◌, ◌^◌, ◌<◌, ◌≤◌, Bool, true, false, cond, List, [], ◌∷◌, ◌++◌, sym, refl, ap, ◌∙◌, subst, mul_assoc, mul_comm, pow-suc, mul_left_comm, arith}
+use Rattle.std.proofs.Common.{◌≡◌, ℕ, zero as none, suc, ◌-◌, ◌*◌, ◌^◌, ◌≤◌, Bool, true, List, [], ◌∷◌, ◌++◌, sym, refl, ap, ◌∙◌, subst, pow-suc, mul_left_comm, arith}
 use native.Mathlib.Nat.{pow-zero}
 use Rattle.rankings.specs.Costs.{Cost, plus, times, zero, negated}
 use Rattle.rankings.specs.Laws.{Ordered, Linear}
-use Rattle.rankings.specs.Algebra.{plus_comm, plus_assoc, plus_zero, zero_plus, plus_negated, times_plus, product_times, times_swap, one_times}
-use Rattle.rankings.proofs.Derived.{reflexive, equal, adds_both, adds_left, scales_any}
+use Rattle.rankings.specs.Algebra.{plus_assoc, zero_plus, plus_negated, times_plus, product_times, times_swap, one_times}
+use Rattle.rankings.proofs.Derived.{adds_left, scales_any}
 use Rattle.table.specs.declared.table.Table.{Table}
 use Rattle.table.specs.Ranges.{Within}
-use Rattle.table.specs.Chains.{walk, row_at, next_arc, arc_at, arcs_of, weights}
+use Rattle.table.specs.Chains.{walk, row_at, next_arc, arcs_of, weights}
 use Rattle.table.specs.Sound.{Sound}
 use Rattle.table.specs.Lookahead.{mean, scaling, X}
 use Rattle.table.proofs.Soundness.{arcs_end}

@@ -1,5 +1,5 @@
 -- Sweeps one after another keep the rules. Assumes nothing.
-use Rattle.std.proofs.Common.{◌≡◌, ℕ, zero, suc, ◌+◌, Bool, true, false, cond, length, sym, refl, ap, ◌∙◌, subst, ⊎_elim}
+use Rattle.std.proofs.Common.{◌≡◌, ℕ, zero, suc, ◌+◌, Bool, true, sym, subst, ⊎_elim}
 use Rattle.std.proofs.lemmas.Bool.{cases_Bool, cond-true, cond-false}
 use Rattle.rankings.specs.Costs.{Cost}
 use Rattle.rankings.specs.Laws.{Ordered, Linear, Rounds}
@@ -10,7 +10,7 @@ use Rattle.table.proofs.Soundness.{sound_table}
 use Rattle.table.specs.declared.figures.Figures.{Figures}
 use Rattle.table.specs.Lookahead.{figure_at}
 use Rattle.planner.specs.Sweeps.{Shown, shown, sweep_of, moves, sweeps}
-use Rattle.planner.specs.Keeping.{ShownKept, InRange, Nearer, Follows, Keeping, SweepsKeep}
+use Rattle.planner.specs.Keeping.{ShownKept, InRange, Follows, Keeping, SweepsKeep}
 use Rattle.planner.proofs.SweepSteps.{sweep_follows}
 
 module _ {le : Cost → Cost → Bool} (o : Ordered le) (t : Table) where

@@ -1,5 +1,5 @@
 -- The nearer of two figures that keep the rules keeps them. Assumes nothing.
-use Rattle.std.proofs.Common.{◌≡◌, ℕ, ◌-◌, ◌≤◌, Bool, true, false, cond, ◌⊎◌, List, length, Some, None, Option, sym, refl, ap, ◌∙◌, subst, inl, inr, ⊎_elim, arith}
+use Rattle.std.proofs.Common.{◌≡◌, ℕ, ◌-◌, Bool, true, false, cond, ◌⊎◌, List, Some, None, sym, ap, ◌∙◌, subst, inl, inr, ⊎_elim, arith}
 use Rattle.std.specs.Option.{option_map}
 use Rattle.std.proofs.lemmas.Bool.{cases_Bool, cond-true, cond-false}
 use Rattle.rankings.specs.Costs.{Cost, times, zero}
@@ -13,7 +13,7 @@ use Rattle.table.specs.Sound.{Sound}
 use Rattle.table.specs.Kept.{RowOf, PlanRule, FloorRule, CeilingRule}
 use Rattle.table.proofs.Keeping.{row_in}
 use Rattle.planner.specs.declared.choice.Choice.{Choice}
-use Rattle.planner.specs.Sweeps.{Shown, applied}
+use Rattle.planner.specs.Sweeps.{Shown}
 use Rattle.planner.specs.Keeping.{ShownKept, InRange, Nearer, Follows, dearer_floor, cheaper_ceiling, cheaper_row, nearer_of, NearerKeeps}
 use Rattle.planner.proofs.Ahead.{X-le}
 use Rattle.planner.proofs.Replacing.{or_old, applied_long, applied_grade, applied_in}

@@ -1,5 +1,5 @@
 -- Sweeps one after another. Assumes nothing.
-use Rattle.std.proofs.Common.{◌≡◌, ℕ, zero, suc, ◌+◌, Bool, true, false, cond, sym, refl, ap, ◌∙◌, arith}
+use Rattle.std.proofs.Common.{◌≡◌, ℕ, zero, suc, ◌+◌, Bool, true, false, cond, ap, ◌∙◌, arith}
 use Rattle.rankings.specs.Costs.{Cost}
 use Rattle.table.specs.declared.table.Table.{Table}
 use Rattle.planner.specs.Sweeps.{Shown, sweep_of, moves, sweeps}

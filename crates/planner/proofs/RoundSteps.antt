@@ -1,22 +1,21 @@
 -- Improvement rounds keep the rules. Assumes nothing.
-use Rattle.std.proofs.Common.{◌≡◌, ℕ, zero as none, suc, ◌-◌, ◌*◌, ◌^◌, ◌≤◌, Bool, true, false, cond, ◌⊎◌, List, length, Some, None, Option, sym, refl, ap, ◌∙◌, subst, inl, inr, ⊎_elim, arith}
+use Rattle.std.proofs.Common.{◌≡◌, ℕ, zero as none, suc, ◌-◌, ◌*◌, ◌^◌, Bool, true, false, cond, ◌⊎◌, Some, None, sym, ap, ◌∙◌, subst, inl, inr, ⊎_elim, arith}
 use Rattle.rankings.specs.Costs.{Cost, times, zero, Within as Sized}
 use Rattle.rankings.specs.Laws.{Ordered, Linear, Rounds}
 use Rattle.rankings.proofs.Derived.{reflexive, opposite}
 use Rattle.table.specs.declared.table.Table.{Table}
 use Rattle.table.specs.Ranges.{Within, FigureIn, FiguresIn}
-use Rattle.table.specs.Lookahead.{figure_at, scaling, X, lookahead_of}
+use Rattle.table.specs.Lookahead.{figure_at, scaling, X}
 use Rattle.table.specs.Rules.{plan_row}
 use Rattle.table.specs.Sound.{Sound}
-use Rattle.table.specs.Kept.{RowOf, PlanRule, FloorRule, CeilingRule}
+use Rattle.table.specs.Kept.{RowOf, PlanRule, CeilingRule}
 use Rattle.table.proofs.Keeping.{row_in}
 use Rattle.table.proofs.Lookaheads.{ahead_some}
 use Rattle.table.proofs.Magnitudes.{scaling-≤, scaling_some, scaled_modest}
 use Rattle.planner.specs.declared.choice.Choice.{Choice}
-use Rattle.planner.specs.Choices.{cheapest_row}
-use Rattle.planner.specs.Sweeps.{Shown, applied}
+use Rattle.planner.specs.Sweeps.{Shown}
 use Rattle.planner.specs.Improvements.{ease, eased, eased_ceilings, give, given, round_of, rounds}
-use Rattle.planner.specs.Keeping.{ShownKept, InRange, Nearer, Follows, RoundsKeep}
+use Rattle.planner.specs.Keeping.{ShownKept, InRange, Follows, RoundsKeep}
 use Rattle.planner.proofs.Ahead.{X-within}
 use Rattle.planner.proofs.Replacing.{or_old, applied_long, applied_grade, applied_in}
 use Rattle.planner.proofs.Roundings.{dear_within}

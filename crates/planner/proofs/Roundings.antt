@@ -1,5 +1,5 @@
 -- Roundings by b · D: what they may be asked, and that they give figures in range. Assumes nothing.
-use Rattle.std.proofs.Common.{◌≡◌, ℕ, ◌*◌, ◌^◌, ◌≤◌, Bool, true, false, ℤ, pos, nat_abs, ◌≤ℤ◌, Some, None, Option, sym, ap, ◌∙◌, subst, arith, w64, SFits, to_z, of_z}
+use Rattle.std.proofs.Common.{◌≡◌, ℕ, ◌*◌, ◌^◌, Bool, true, false, ℤ, pos, ◌≤ℤ◌, Some, None, Option, ap, ◌∙◌, subst, arith, w64, SFits, to_z, of_z}
 use Rattle.std.proofs.lemmas.Int.{ints, to_z-of_z}
 use Rattle.rankings.specs.Costs.{Cost, Within, Modest}
 use Rattle.rankings.specs.Laws.{Rounds}

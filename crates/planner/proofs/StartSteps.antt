@@ -1,7 +1,7 @@
 -- Start figures keep the rules: the cheapest row cost for ever is a floor, and the dearest a ceiling. Assumes nothing.
-use Rattle.std.proofs.Common.{◌≡◌, ℕ, zero as none, suc, ◌+◌, ◌-◌, ◌*◌, ◌<◌, ◌≤◌, Bool, true, false, cond, List, [], ◌∷◌, get_or, replicate, sym, refl, ap, ◌∙◌, subst, ⊎_elim, mul_assoc, mul_comm, add-mul, mul-le-mul, one-mul, mul_left_comm, arith}
+use Rattle.std.proofs.Common.{◌≡◌, ℕ, zero as none, suc, ◌+◌, ◌-◌, ◌*◌, ◌<◌, ◌≤◌, Bool, true, cond, List, [], ◌∷◌, replicate, sym, ap, ◌∙◌, subst, ⊎_elim, mul_assoc, mul_comm, add-mul, mul-le-mul, one-mul, mul_left_comm, arith}
 use Rattle.std.proofs.lemmas.List.{get_or-replicate}
-use Rattle.std.proofs.lemmas.Bool.{cases_Bool, cases_eq, cond-true, cond-false, eq-eqb}
+use Rattle.std.proofs.lemmas.Bool.{cases_Bool, cases_eq, cond-true, cond-false}
 use Rattle.rankings.specs.Costs.{Cost, plus, times, zero}
 use Rattle.rankings.specs.Laws.{Ordered, Linear}
 use Rattle.rankings.specs.Algebra.{sum_times, product_times}
@@ -9,17 +9,17 @@ use Rattle.rankings.proofs.Derived.{reflexive, equal, opposite, scales_any, more
 use Rattle.table.specs.declared.table.Table.{Table}
 use Rattle.table.specs.Ranges.{Within}
 use Rattle.table.specs.Chains.{walk, row_at, arcs_of, next_row, first_row, rows_of}
-use Rattle.table.specs.Lookahead.{figure_at, mean, scaling, X}
+use Rattle.table.specs.Lookahead.{figure_at, scaling, X}
 use Rattle.table.specs.Rules.{has}
 use Rattle.table.specs.Sound.{Sound}
-use Rattle.table.specs.Kept.{RowOf, PlanRule, FloorRule, CeilingRule}
+use Rattle.table.specs.Kept.{RowOf}
 use Rattle.table.proofs.Keeping.{row_in, walked_row}
 use Rattle.table.proofs.Walks.{walk_in}
 use Rattle.planner.specs.Start.{costs_from, row_costs, cheapest_among, dearest_among, cheapest_cost, dearest_cost, start_figure}
 use Rattle.planner.specs.Keeping.{StartKeeps}
 use Rattle.planner.proofs.Ahead.{X-le}
 use Rattle.planner.proofs.Averages.{mean_same}
-use Rattle.planner.proofs.Dearest.{worse_left, worse_right, dearest_first}
+use Rattle.planner.proofs.Dearest.{worse_right, dearest_first}
 use Rattle.planner.proofs.Figures.{row_weighs}
 use Rattle.planner.proofs.Leasts.{has_middle}
 

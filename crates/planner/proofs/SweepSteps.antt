@@ -1,8 +1,8 @@
 -- One sweep keeps the rules. Assumes nothing.
-use Rattle.std.proofs.Common.{◌≡◌, ℕ, ◌-◌, ◌*◌, ◌^◌, ◌≤◌, Bool, true, false, cond, ◌⊎◌, List, length, Some, None, Option, sym, refl, ap, ◌∙◌, subst, inl, inr, ⊎_elim, arith}
+use Rattle.std.proofs.Common.{◌≡◌, ℕ, ◌-◌, ◌*◌, ◌^◌, Bool, true, false, cond, ◌⊎◌, List, Some, None, sym, ap, ◌∙◌, subst, inl, inr, ⊎_elim, arith}
 use Rattle.std.specs.Option.{option_map}
 use Rattle.std.proofs.lemmas.Bool.{cases_Bool, cond-true, cond-false}
-use Rattle.rankings.specs.Costs.{Cost, times, zero, Within as Sized, Modest}
+use Rattle.rankings.specs.Costs.{Cost, times, zero, Within as Sized}
 use Rattle.rankings.specs.Laws.{Ordered, Linear, Rounds}
 use Rattle.rankings.proofs.Derived.{reflexive, opposite}
 use Rattle.table.specs.declared.table.Table.{Table}
@@ -16,13 +16,13 @@ use Rattle.table.proofs.Keeping.{row_in, row_walked, walked_row}
 use Rattle.table.proofs.Magnitudes.{scaling-≤, scaling_some, scaled_modest}
 use Rattle.planner.specs.declared.choice.Choice.{Choice}
 use Rattle.planner.specs.Choices.{cheapest_row, Cheapest}
-use Rattle.planner.specs.Sweeps.{Shown, applied, raise, lower, raised, lowered, lowered_row, lowered_cost, sweep_of}
-use Rattle.planner.specs.Keeping.{ShownKept, InRange, Nearer, Follows}
+use Rattle.planner.specs.Sweeps.{Shown, raise, lower, raised, lowered, lowered_row, lowered_cost, sweep_of}
+use Rattle.planner.specs.Keeping.{ShownKept, InRange, Follows}
 use Rattle.planner.proofs.Ahead.{X-within}
-use Rattle.planner.proofs.Leasts.{Found, found, has_middle}
+use Rattle.planner.proofs.Leasts.{found, has_middle}
 use Rattle.planner.proofs.Replacing.{or_old, applied_long, applied_grade, applied_in}
 use Rattle.planner.proofs.Roundings.{cheap_within, dear_within}
-use Rattle.planner.proofs.Steps.{taken_dearer, taken_cheaper, unless, floors_rise, ceilings_sink}
+use Rattle.planner.proofs.Steps.{taken_dearer, unless, floors_rise, ceilings_sink}
 
 module _ (le : Cost → Cost → Bool) (cheap dear : Cost → ℕ → Cost) (o : Ordered le) (l : Linear le) (laws : Rounds le cheap dear) (t : Table) (sound : Sound t) where
   -- the cheapest row of a grade is one of its rows, and what it costs is in range

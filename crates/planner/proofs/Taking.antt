@@ -1,11 +1,10 @@
 -- Filed lines and the figures made of them are one. Assumes nothing.
-use Rattle.std.proofs.Common.{◌≡◌, ℕ, Bool, true, cond, List, Some, None, sym, refl, ap, ◌∙◌, subst}
+use Rattle.std.proofs.Common.{◌≡◌, ℕ, Bool, true, cond, List, Some, None, sym, subst}
 use Rattle.std.specs.Option.{option_map}
 use Rattle.rankings.specs.Costs.{Cost}
 use Rattle.rankings.specs.Laws.{Ordered, Linear}
 use Rattle.table.specs.declared.figures.Figures.{Figures}
 use Rattle.table.specs.declared.filing.FiledLine.{FiledLine}
-use Rattle.table.specs.declared.page.Page.{Page}
 use Rattle.table.specs.declared.table.Table.{Table}
 use Rattle.table.specs.Filing.{filed_rows, filed_floors, filed_ceilings, Says}
 use Rattle.table.specs.Kept.{Kept}

@@ -1,5 +1,5 @@
 -- Policies over the past, what they cost, and the bounds that figures give. Assumes nothing.
-use Rattle.std.specs.Prelude.{◌≡◌, ℕ, zero as none, suc, ◌+◌, ◌*◌, ◌^◌, Bool, true, List, [], ◌∷◌, ◌++◌}
+use Rattle.std.specs.Prelude.{◌≡◌, ℕ, zero as none, suc, ◌*◌, ◌^◌, Bool, true, List, [], ◌∷◌, ◌++◌}
 use Rattle.rankings.specs.Costs.{Cost, plus, times, zero, negated}
 use Rattle.rankings.specs.Laws.{Ordered, Linear}
 use Rattle.table.specs.declared.table.Table.{Table}

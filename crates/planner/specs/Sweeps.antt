@@ -1,5 +1,5 @@
 -- What sweeps make of figures. Assumes nothing.
-use Rattle.std.specs.Prelude.{ℕ, zero, suc, ◌+◌, Bool, true, false, cond, ◌||◌, List, [], ◌∷◌, is_some, Some, None, Option, slice_set}
+use Rattle.std.specs.Prelude.{ℕ, zero, suc, ◌+◌, Bool, true, false, cond, ◌||◌, List, is_some, Some, None, Option, slice_set}
 use Rattle.std.specs.Option.{option_map}
 use Rattle.rankings.specs.Costs.{Cost}
 use Rattle.table.specs.declared.table.Table.{Table}

@@ -1,6 +1,6 @@
 -- What follows from the laws of a ranking, for every one. `le a b ≡ true` says that a is no dearer than b, and
 -- `le a b ≡ false` that a is dearer. Assumes nothing.
-use Rattle.std.proofs.Common.{◌≡◌, ℕ, zero, suc, ◌+◌, ◌-◌, ◌<◌, ◌≤◌, Bool, true, false, ◌⊎◌, sym, refl, ◌∙◌, inl, inr, ⊎_elim, arith}
+use Rattle.std.proofs.Common.{◌≡◌, ℕ, zero, suc, ◌+◌, ◌-◌, ◌<◌, ◌≤◌, Bool, true, false, sym, ◌∙◌, ⊎_elim, arith}
 use Rattle.std.proofs.lemmas.Bool.{both_ways, cases_Bool}
 use Rattle.rankings.specs.Costs.{Cost, Modest, plus, times, negated, largest_divisor}
 use Rattle.rankings.specs.Costs as costs

@@ -1,5 +1,5 @@
 -- How large the parts of a sum, a multiple and a rounding can be. Assumes nothing.
-use Rattle.std.proofs.Common.{ℕ, suc, ◌+◌, ◌*◌, ◌/◌, ◌<◌, ◌≤◌, ℤ, pos, negsuc, ◌+ℤ◌, ◌*ℤ◌, neg_ℤ, nat_abs, inl, inr, mul_comm, div-lt_iff_lt-mul, mul-le-mul, arith}
+use Rattle.std.proofs.Common.{ℕ, ◌+◌, ◌*◌, ◌<◌, ◌≤◌, ℤ, pos, negsuc, ◌*ℤ◌, neg_ℤ, nat_abs, inl, inr, mul_comm, div-lt_iff_lt-mul, mul-le-mul, arith}
 use native.Mathlib.Nat.{div-le_of_le-mul}
 use borrow.Author.Differences.{ints}
 use Rattle.rankings.specs.Costs.{Cost, Within, plus, times, negated, floor, ceil}

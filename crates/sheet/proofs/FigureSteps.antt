@@ -1,5 +1,5 @@
 -- What one figure line says, and one turn of the loop over them.
-use Rattle.std.proofs.Common.{◌≡◌, ℕ, ◌+◌, ◌-◌, ◌<◌, ◌≤◌, ◌≢◌, List, [], ◌∷◌, ◌++◌, length, get_or, drop, set, replicate, ℤ, pos, sym, refl, ap, ◌∙◌, subst, arith, get_or-set_other, get_or-set_same, rules, below_none}
+use Rattle.std.proofs.Common.{◌≡◌, ℕ, ◌+◌, ◌<◌, ◌≤◌, ◌≢◌, List, ◌++◌, length, get_or, drop, set, replicate, ℤ, pos, sym, refl, ◌∙◌, arith, get_or-set_other, get_or-set_same, rules, below_none}
 use Rattle.table.specs.Ranges.{Within, FigureIn}
 use Rattle.lines.specs.Lines.{Good, figure, line_text}
 use Rattle.sheet.specs.Read.{FigureRead, FiguresRead}

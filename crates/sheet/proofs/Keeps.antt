@@ -1,5 +1,5 @@
 -- What a write into a list keeps.
-use Rattle.std.proofs.Common.{◌≡◌, ℕ, zero, suc, ◌+◌, ◌<◌, List, [], ◌∷◌, length, get_or, set, replicate, sym, subst, get_or-set_same, below_more}
+use Rattle.std.proofs.Common.{ℕ, zero, suc, ◌+◌, ◌<◌, List, [], ◌∷◌, length, get_or, set, replicate, sym, subst, get_or-set_same, below_more}
 
 -- what holds of each element
 pub set_keeps : {X : Type 0} (P : X → Type 0) (xs : List X) (g i : ℕ) (x d : X) → P x → P (get_or xs i d) → P (get_or (set xs g x) i d)

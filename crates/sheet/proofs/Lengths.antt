@@ -1,17 +1,13 @@
 -- No sheet is long.
-use Rattle.std.proofs.Common.{◌≡◌, ℕ, zero, suc, ◌+◌, ◌*◌, ◌^◌, ◌<◌, ◌≤◌, List, [], ◌∷◌, ◌++◌, length, get_or, ℤ, pos, negsuc, nat_abs, Some, None, decimal, Option, sym, refl, ap, ◌∙◌, add-mul, one-mul, add-one, arith}
-use Rattle.std.specs.Fmt.{signed_decimal}
+use Rattle.std.proofs.Common.{◌≡◌, ℕ, zero, suc, ◌+◌, ◌*◌, ◌^◌, ◌<◌, ◌≤◌, List, [], ◌∷◌, ◌++◌, length, get_or, ℤ, pos, negsuc, nat_abs, Some, None, decimal, Option, sym, ap, ◌∙◌, add-mul, one-mul, add-one, arith}
 use Rattle.std.proofs.lemmas.Fmt.{length-decimal-le}
 use Rattle.std.proofs.lemmas.List.{length-append}
 use Rattle.text.specs.Fields.{Label, number_text, label_text}
 use Rattle.table.specs.declared.figures.Figures.{Figures}
-use Rattle.table.specs.declared.rows.Arc.{Arc}
-use Rattle.table.specs.declared.rows.Row.{Row}
 use Rattle.table.specs.declared.table.Table.{Table}
-use Rattle.table.specs.Ranges.{FirstsIn, RowIn, ArcIn, FigureIn, row0, arc0}
-use Rattle.lines.specs.Lines.{line_text, header, grade, row, arc, figure, end, blank, four_text}
+use Rattle.lines.specs.Lines.{line_text, grade, row, arc, figure, end, blank, four_text}
 use Rattle.sheet.specs.Read.{PlansIn}
-use Rattle.sheet.specs.Render.{series, counts_entry, grade_entry, row_entry, arc_entry, figure_entry, grades_text, rows_text, arcs_text, figures_text, figure_part, figures_of, header_entry, render}
+use Rattle.sheet.specs.Render.{series, counts_entry, grades_text, rows_text, arcs_text, figure_part, figures_of, header_entry, render}
 
 count_long : (e k n : ℕ) → 0 < k → n < 10 ^ k → n < 2 ^ 64 → length (number_text e (pos n)) ≤ k + 1
 count_long e k n some small fits = omega (arith, length-append (decimal n) (e ∷ []), length-decimal-le k n some small fits)

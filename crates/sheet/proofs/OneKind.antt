@@ -1,5 +1,5 @@
 -- The line of one kind at a place.
-use Rattle.std.proofs.Common.{◌≡◌, ℕ, List, ◌++◌, Some, None, Option, sym, refl, ap, ◌∙◌, subst, arith}
+use Rattle.std.proofs.Common.{◌≡◌, ℕ, List, ◌++◌, Some, None, sym, refl, subst, arith}
 use Rattle.text.specs.Reading.{Reads}
 use Rattle.text.proofs.Reading.{refused, returned, not_some, same_pair}
 use Rattle.lines.specs.declared.records.HeaderLine.{HeaderLine}

@@ -5,7 +5,7 @@ use Rattle.table.specs.declared.rows.Arc.{Arc}
 use Rattle.table.specs.declared.rows.Row.{Row}
 use Rattle.table.specs.declared.table.Table.{Table}
 use Rattle.table.specs.Ranges.{row0, arc0}
-use Rattle.lines.specs.Lines.{Entry, HeaderOf, GradeOf, RowOf, ArcOf, FigureOf, Good, line_text, header, grade, row, arc, figure, end}
+use Rattle.lines.specs.Lines.{Entry, Good, line_text, end}
 use Rattle.sheet.specs.Read.{PlansIn}
 use Rattle.sheet.specs.Render.{series, grade_entry, row_entry, arc_entry, figure_entry, figure_part, figures_of, header_entry}
 use Rattle.sheet.specs.Laws.{SameFigure, SameFigures, RenderingOne}

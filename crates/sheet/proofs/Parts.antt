@@ -1,8 +1,8 @@
 -- Lines one after another, as they are read.
-use Rattle.std.proofs.Common.{◌≡◌, ℕ, zero, suc, ◌+◌, ◌-◌, ◌<◌, ◌≤◌, ◌≢◌, List, [], ◌∷◌, ◌++◌, length, get_or, take, drop, set, ℤ, pos, sym, refl, ap, ◌∙◌, subst, append_assoc, append-nil, arith}
+use Rattle.std.proofs.Common.{◌≡◌, ℕ, zero, suc, ◌+◌, ◌-◌, ◌<◌, ◌≤◌, List, [], ◌∷◌, ◌++◌, length, take, drop, sym, refl, ap, ◌∙◌, append_assoc, arith}
 use Rattle.std.proofs.lemmas.List.{length-append, length-drop, length-take-le, take-append-drop, take_at, drop_at}
 use Rattle.text.specs.Fields.{label_text}
-use Rattle.lines.specs.Lines.{Entry, GradeOf, RowOf, grade, row, line_text, blank, four_text}
+use Rattle.lines.specs.Lines.{GradeOf, RowOf, grade, row, line_text, blank, four_text}
 use Rattle.sheet.specs.Render.{series, part_of}
 use Rattle.sheet.proofs.Series.{series_more}
 

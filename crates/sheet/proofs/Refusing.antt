@@ -1,5 +1,5 @@
 -- A sheet that is refused at one of its lines. Assumes nothing.
-use Rattle.std.proofs.Common.{ℕ, ◌+◌, ◌≤◌, cond, List, [], ◌∷◌, ◌++◌, length, drop, Some, None, Option, sym, subst, inl, inr, arith}
+use Rattle.std.proofs.Common.{ℕ, ◌+◌, ◌≤◌, cond, List, [], ◌∷◌, ◌++◌, length, drop, Some, None, Option, sym, subst, inr, arith}
 use Rattle.table.specs.declared.figures.Figures.{Figures}
 use Rattle.table.specs.declared.rows.Arc.{Arc}
 use Rattle.table.specs.declared.rows.Row.{Row}

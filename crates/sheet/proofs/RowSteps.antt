@@ -1,5 +1,5 @@
 -- What one row's line says, and one turn of the loop over them.
-use Rattle.std.proofs.Common.{◌≡◌, ℕ, ◌+◌, ◌-◌, ◌<◌, ◌≤◌, ◌≢◌, List, [], ◌∷◌, ◌++◌, length, get_or, drop, set, ℤ, pos, sym, refl, ap, ◌∙◌, subst, arith, get_or-set_other, get_or-set_same, below_none}
+use Rattle.std.proofs.Common.{◌≡◌, ℕ, ◌+◌, ◌-◌, ◌<◌, ◌≤◌, ◌≢◌, List, ◌∷◌, ◌++◌, length, get_or, drop, set, ℤ, pos, sym, refl, ap, ◌∙◌, subst, arith, get_or-set_other, get_or-set_same, below_none}
 use Rattle.text.specs.Fields.{Label}
 use Rattle.table.specs.declared.rows.Row.{Row}
 use Rattle.table.specs.Ranges.{RowIn, row0}

@@ -1,5 +1,5 @@
 -- The lines that a sheet is due to have, in their order, and the ranges of what they say. Assumes nothing.
-use Rattle.std.specs.Prelude.{◌≡◌, ℕ, zero, suc, ◌+◌, ◌<◌, ◌≤◌, ◌⊎◌, List, [], ◌∷◌, ◌++◌, ℤ, pos, nat_abs}
+use Rattle.std.specs.Prelude.{◌≡◌, ℕ, zero, suc, ◌+◌, ◌<◌, ◌⊎◌, List, [], ◌∷◌, ◌++◌, ℤ, pos}
 use Rattle.table.specs.Ranges.{Within, PartIn, FigureIn}
 use Rattle.lines.specs.Lines.{Entry, HeaderOf, GradeOf, RowOf, ArcOf, FigureOf}
 use Rattle.lines.specs.Lines as line

@@ -10,7 +10,7 @@ use Rattle.lines.specs.declared.records.ArcLine.{ArcLine}
 use Rattle.lines.specs.declared.records.FigureLine.{FigureLine}
 use Rattle.lines.specs.declared.records.HeaderLine.{HeaderLine}
 use Rattle.lines.specs.declared.records.RowLine.{RowLine}
-use Rattle.lines.specs.Lines.{header, grade, row, arc, figure, line_text}
+use Rattle.lines.specs.Lines.{grade, row, arc, figure, line_text}
 use Rattle.sheet.specs.Render.{part_of, labels_of, grades_text, rows_text, arcs_text, figures_text, figure_part, figures_of, counts_entry}
 use Rattle.sheet.specs.Spans.{SpanIn, SpansIn}
 

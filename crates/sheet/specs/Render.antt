@@ -5,7 +5,6 @@ use Rattle.table.specs.declared.rows.Arc.{Arc}
 use Rattle.table.specs.declared.rows.Row.{Row}
 use Rattle.table.specs.declared.table.Table.{Table}
 use Rattle.table.specs.Ranges.{row0, arc0}
-use Rattle.sheet.specs.declared.labels.Labels.{Labels}
 use Rattle.sheet.specs.declared.labels.Span.{Span}
 use Rattle.lines.specs.Lines.{Entry, header, grade, row, arc, figure, end, line_text}
 use Rattle.sheet.specs.Spans.{span0}

@@ -1,5 +1,5 @@
 -- What a table without a fault keeps. Assumes nothing.
-use Rattle.std.proofs.Common.{◌≡◌, ℕ, ◌+◌, ◌<◌, ◌≤◌, Bool, true, false, not, eqb, is_some, Some, None, Option, sym, refl, ap, ◌∙◌, arith}
+use Rattle.std.proofs.Common.{◌≡◌, ℕ, false, eqb, is_some, Some, None, Option, refl, arith}
 use Rattle.std.proofs.lemmas.Bool.{true≢false, not-false, eqb-true}
 use Rattle.table.specs.declared.table.Table.{Table}
 use Rattle.table.specs.declared.fault.TableFault.{TableFault}

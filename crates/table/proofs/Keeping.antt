@@ -1,6 +1,6 @@
 -- The check of figures finds nothing exactly where they keep the rules. Assumes nothing.
 use Rattle.std.proofs.Common.{◌≡◌, ℕ, zero, suc, ◌+◌, ◌-◌, ◌<◌, ◌≤◌, Bool, true, false, cond, not, eqb, List, [], ◌∷◌, Some, None, Option, sym, refl, ap, ◌∙◌, subst, ⊎_elim, arith}
-use Rattle.std.proofs.lemmas.Bool.{false≢true, not-true, not-false, cases_Bool, cases_eq, eq-eqb}
+use Rattle.std.proofs.lemmas.Bool.{false≢true, not-false, cases_Bool, cases_eq, eq-eqb}
 use Rattle.std.proofs.lemmas.Bool.Decides.{eqb_tells}
 use Rattle.rankings.specs.Costs.{Cost, times}
 use Rattle.table.specs.declared.table.Table.{Table}
@@ -9,10 +9,10 @@ use Rattle.table.specs.declared.fault.FiguresFault.{FiguresFault}
 use Rattle.table.specs.declared.fault.FiguresFault.TheVariants.{PlanRow, Floor, Ceiling}
 use Rattle.table.specs.Ranges.{Within}
 use Rattle.table.specs.Chains.{next_row, first_row, rows_of}
-use Rattle.table.specs.Lookahead.{figure_at, scaling, X, lookahead_of}
+use Rattle.table.specs.Lookahead.{figure_at, scaling, X}
 use Rattle.table.specs.Rules.{has, first_in, first_pair, plan_row, plan_only, strays, keeps_floor, keeps_ceiling, breaks_floor, breaks_ceiling, first_stray, first_floor, first_ceiling, or_later, figures_fault}
-use Rattle.table.specs.Sound.{Chain, InChain, Sound}
-use Rattle.table.specs.Kept.{RowOf, PlanRule, FloorRule, CeilingRule, Kept, Keeps, Tells, KeptExactly}
+use Rattle.table.specs.Sound.{Chain, Sound}
+use Rattle.table.specs.Kept.{RowOf, PlanRule, FloorRule, CeilingRule, Keeps, Tells, KeptExactly}
 use Rattle.table.proofs.Lookaheads.{ahead_some}
 use Rattle.table.proofs.Pairs.{in_here, in_later}
 use Rattle.table.proofs.Soundness.{chain_same, rows_end}

@@ -1,5 +1,5 @@
 -- X is told of each row. Assumes nothing.
-use Rattle.std.proofs.Common.{◌≡◌, ℕ, true, leb, Some, None, refl, ◌∙◌}
+use Rattle.std.proofs.Common.{◌≡◌, ℕ, true, leb, Some, None}
 use Rattle.std.proofs.lemmas.Bool.{and_from, le-leb, cond-true}
 use Rattle.rankings.specs.Costs.{Cost}
 use Rattle.table.specs.declared.table.Table.{Table}

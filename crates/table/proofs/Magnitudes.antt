@@ -1,5 +1,5 @@
 -- Why the numbers fit: no part of X is larger than b · D · 10 ^ 10, and so than 10 ^ 16. Assumes nothing.
-use Rattle.std.proofs.Common.{◌≡◌, ℕ, ◌+◌, ◌-◌, ◌*◌, ◌^◌, ◌<◌, ◌≤◌, sym, mul_assoc, add-mul, mul-le-mul, arith}
+use Rattle.std.proofs.Common.{ℕ, ◌+◌, ◌-◌, ◌*◌, ◌^◌, ◌≤◌, mul_assoc, add-mul, mul-le-mul, arith}
 use Rattle.rankings.specs.Costs.{Cost, Within, Modest, plus, times}
 use Rattle.rankings.proofs.Sizes.{within_more, plus_within, times_within}
 use Rattle.table.specs.declared.table.Table.{Table}

@@ -1,5 +1,5 @@
 -- A sum of weighted figures stays within what the weights allow. Assumes nothing.
-use Rattle.std.proofs.Common.{◌≡◌, ℕ, ◌+◌, ◌-◌, ◌*◌, ◌^◌, ◌<◌, ◌≤◌, List, pos, nat_abs, sym, refl, ap, ◌∙◌, add-mul, arith}
+use Rattle.std.proofs.Common.{◌≡◌, ℕ, ◌+◌, ◌-◌, ◌*◌, ◌^◌, ◌<◌, ◌≤◌, List, nat_abs, ap, arith}
 use Rattle.rankings.specs.Costs.{Cost, Within, plus, times, zero}
 use Rattle.rankings.proofs.Sizes.{plus_within, times_within}
 use Rattle.table.specs.declared.table.Table.{Table}

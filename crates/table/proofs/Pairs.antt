@@ -1,5 +1,5 @@
 -- A search through grades and their lists, step by step. Assumes nothing.
-use Rattle.std.proofs.Common.{◌≡◌, ℕ, zero, suc, ◌+◌, ◌-◌, Bool, true, false, cond, List, [], ◌∷◌, get_or, Some, None, Option, refl, ap, ◌∙◌, arith}
+use Rattle.std.proofs.Common.{◌≡◌, ℕ, zero, suc, ◌+◌, ◌-◌, Bool, true, false, List, [], ◌∷◌, get_or, Some, None, Option, refl, ap, ◌∙◌, arith}
 use Rattle.table.specs.Rules.{plan_only, first_in, first_pair}
 
 module _ (bad : ℕ → ℕ → Bool) where

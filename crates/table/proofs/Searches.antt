@@ -1,8 +1,8 @@
 -- A search for the lowest number that fails, step by step. Assumes nothing.
-use Rattle.std.proofs.Common.{◌≡◌, ℕ, zero, suc, ◌+◌, ◌-◌, ◌<◌, ◌≤◌, Bool, true, false, cond, List, get_or, Some, None, Option, sym, refl, ap, ◌∙◌, ⊎_elim, arith}
+use Rattle.std.proofs.Common.{◌≡◌, ℕ, zero, suc, ◌+◌, ◌-◌, ◌<◌, ◌≤◌, Bool, true, false, List, get_or, Some, None, sym, refl, ap, ◌∙◌, ⊎_elim, arith}
 use Rattle.std.proofs.lemmas.Bool.{cases_Bool, cases_eq}
 use Rattle.std.proofs.lemmas.Bool.Decides.{nat_tests}
-use Rattle.table.specs.Faults.{outside, first_from, lowest}
+use Rattle.table.specs.Faults.{outside, first_from}
 
 module _ (bad : ℕ → Bool) (k : ℕ) where
   pub found_here : (n h : ℕ) → n ≡ h + 1 → bad k ≡ true → first_from bad n k ≡ Some k

@@ -1,20 +1,20 @@
 -- The check finds no fault exactly where the table is sound. Assumes nothing.
-use Rattle.std.proofs.Common.{◌≡◌, ℕ, zero, suc, ◌+◌, ◌-◌, ◌<◌, ◌≤◌, Bool, true, false, cond, not, eqb, List, [], ◌∷◌, ◌++◌, map, length, get_or, take, is_some, Some, None, Option, sym, refl, ap, ◌∙◌, subst, ⊎_elim, arith}
+use Rattle.std.proofs.Common.{◌≡◌, ℕ, zero, suc, ◌+◌, ◌-◌, ◌<◌, ◌≤◌, Bool, true, false, cond, not, eqb, List, [], ◌∷◌, map, length, take, is_some, None, sym, refl, ap, ◌∙◌, subst, ⊎_elim, arith}
 use Rattle.std.proofs.lemmas.List.{length-map, length-take-le, get_or-map, get_or-take}
 use Rattle.std.proofs.lemmas.Bool.{false≢true, eq-eqb, ne_eqb, eqb-true, eqb-false, not-false, cases_lt}
 use Rattle.std.proofs.lemmas.Bool.Decides.{eqb_tells}
 use Rattle.table.specs.declared.table.Table.{Table}
 use Rattle.table.specs.Ranges.{Within, row0, arc0}
-use Rattle.table.specs.Chains.{walk, first_row, next_row, rows_of, row_at, next_arc, arcs_of, weights}
+use Rattle.table.specs.Chains.{first_row, next_row, rows_of, row_at, next_arc, arcs_of, weights}
 use Rattle.table.specs.declared.fault.TableFault.TheVariants.{RowPointers, LooseRow, ArcPointers, LooseArc, Weights}
-use Rattle.table.specs.Faults.{count, or_else, gathered, first_from, lowest, row_pointers, arc_pointers, reached_rows, reached_arcs, mispointed, loose, unbalanced, table_fault}
+use Rattle.table.specs.Faults.{count, or_else, gathered, first_from, row_pointers, arc_pointers, reached_rows, reached_arcs, mispointed, loose, unbalanced, table_fault}
 use Rattle.table.specs.Rules.{has}
-use Rattle.table.specs.Sound.{Chain, InChain, Sound, Walked, SoundExactly}
+use Rattle.table.specs.Sound.{Chain, Sound, Walked, SoundExactly}
 use Rattle.table.proofs.Tallies.{count-++}
 use Rattle.table.proofs.Searches.{none_found, found_later}
 use Rattle.table.proofs.Ends.{ends}
 use Rattle.table.specs.declared.sound.SoundTable.{SoundTable}
-use Rattle.table.proofs.Faultless.{no_fault, from_rows, from_loose_rows, from_arcs, from_loose_arcs, from_weights, balanced}
+use Rattle.table.proofs.Faultless.{no_fault, from_rows, from_loose_rows, from_arcs, from_loose_arcs, balanced}
 
 -- a number stands in a list where its count is not 0
 has_count : (k : ℕ) (xs : List ℕ) → has k xs ≡ true → 1 ≤ count k xs

@@ -1,5 +1,5 @@
 -- One step of a walk along a chain, and its ends. Assumes nothing.
-use Rattle.std.proofs.Common.{◌≡◌, ℕ, zero, suc, ◌+◌, ◌<◌, List, [], ◌∷◌, refl, ap, arith}
+use Rattle.std.proofs.Common.{◌≡◌, ℕ, zero, suc, ◌+◌, ◌<◌, [], ◌∷◌, refl, ap, arith}
 use Rattle.table.specs.Chains.{walk}
 
 module _ (next : ℕ → ℕ) where

@@ -1,5 +1,5 @@
 -- Lines of plan row, floor and ceiling that somebody files: their rules, and the first one that they break. Assumes nothing.
-use Rattle.std.specs.Prelude.{◌≡◌, ℕ, ◌-◌, ◌^◌, Bool, not, ◌&&◌, List, map, length, Some, None, Ok, Err, Option, Result, nat_le, slice_index_or, unsigned_abs}
+use Rattle.std.specs.Prelude.{◌≡◌, ℕ, ◌^◌, Bool, not, ◌&&◌, List, map, length, Some, None, Ok, Err, Option, Result, nat_le, slice_index_or, unsigned_abs}
 use Rattle.rankings.specs.Costs.{Cost}
 use Rattle.table.specs.declared.fault.FiguresFault.{FiguresFault}
 use Rattle.table.specs.declared.fault.FiguresFault.TheVariants.{PlanRow, Part, Floor, Ceiling}

@@ -1,10 +1,10 @@
 -- The two small shops of the worked cases. Assumes nothing.
-use Rattle.std.specs.Prelude.{◌≡◌, ℕ, zero, suc, ◌<◌, ◌≤◌, List, [], ◌∷◌, replicate, pos, refl}
+use Rattle.std.specs.Prelude.{ℕ, zero, suc, List, ◌∷◌, replicate, pos, refl}
 use Rattle.std.proofs.Common.{arith}
 use Rattle.table.specs.declared.rows.Row.{Row}
 use Rattle.table.specs.declared.rows.Arc.{Arc}
 use Rattle.table.specs.declared.table.Table.{Table}
-use Rattle.table.specs.Ranges.{Within, FirstsIn, RowsIn, ArcsIn, row0, arc0}
+use Rattle.table.specs.Ranges.{FirstsIn, RowsIn, ArcsIn, row0, arc0}
 
 -- a row: the grade's next row, money, minutes, and its first arc
 abbrev pub row : ℕ → ℕ → ℕ → ℕ → Row

@@ -1,5 +1,5 @@
 -- The worked cases, in numbers. Assumes nothing.
-use Rattle.std.specs.Prelude.{◌≡◌, ℕ, Bool, true, List, [], ◌∷◌, ℤ, pos, neg_ℤ, Some, None, Option}
+use Rattle.std.specs.Prelude.{◌≡◌, ℕ, Bool, true, [], ◌∷◌, ℤ, pos, neg_ℤ, Some, None, Option}
 use Rattle.rankings.specs.Costs.{Cost}
 use Rattle.rankings.specs.Models.{by_money, by_money_then_minutes, both_down, both_up}
 use Rattle.table.specs.declared.fault.FiguresFault.{FiguresFault}

@@ -1,4 +1,4 @@
-use Rattle.std.proofs.Common.{◌≡◌, Some, None, sym, refl, ap, ◌∙◌, subst}
+use Rattle.std.proofs.Common.{sym, refl, ap, ◌∙◌, subst}
 use Rattle.table.specs.Rules.{figures_fault}
 use Rattle.book.specs.Calls.{FiguresOpen, FiguresBreak}
 use Rattle.book.proofs.calls.read_page.Goals as goal

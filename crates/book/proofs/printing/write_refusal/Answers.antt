@@ -1,4 +1,4 @@
-use Rattle.std.proofs.Common.{◌≡◌, ◌++◌, Some, None, codes, ap, ◌∙◌, subst, rules}
+use Rattle.std.proofs.Common.{◌++◌, Some, None, codes, ap, ◌∙◌, subst, rules}
 use Rattle.text.specs.Fields.{natural_text}
 use Rattle.text.specs.Writing.{Writes}
 use Rattle.text.proofs.Writing.{writes_then, writes_none}

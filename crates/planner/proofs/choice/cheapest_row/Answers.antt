@@ -1,4 +1,4 @@
-use Rattle.std.proofs.Common.{◌≡◌, ◌+◌, ◌-◌, ◌*◌, ◌^◌, Some, sym, refl, ap, ◌∙◌, subst, arith}
+use Rattle.std.proofs.Common.{◌+◌, ◌-◌, ◌*◌, ◌^◌, Some, sym, ap, ◌∙◌, subst, arith}
 use Rattle.table.specs.Ranges.{Within}
 use Rattle.table.specs.Chains.{walk, next_row, first_row}
 use Rattle.table.specs.Lookahead.{figure_at, scaling}

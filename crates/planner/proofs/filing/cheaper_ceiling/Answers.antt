@@ -1,4 +1,4 @@
-use Rattle.std.proofs.Common.{◌-◌, false, Some, None, sym, refl, arith}
+use Rattle.std.proofs.Common.{◌-◌, Some, None, sym, refl, arith}
 use Rattle.std.proofs.lemmas.Bool.{not-true, cond-false}
 use Rattle.table.specs.Lookahead.{figure_at}
 use Rattle.table.specs.Rules.{plan_row}

@@ -1,4 +1,4 @@
-use Rattle.std.proofs.Common.{◌-◌, false, Some, None, sym, arith}
+use Rattle.std.proofs.Common.{◌-◌, Some, None, sym, arith}
 use Rattle.std.proofs.lemmas.Bool.{not-true, cond-false}
 use Rattle.table.specs.Lookahead.{figure_at}
 use Rattle.planner.proofs.filing.dearer_floor.Goals as goal

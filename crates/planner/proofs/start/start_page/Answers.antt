@@ -1,6 +1,6 @@
 use Rattle.std.proofs.Common.{◌≡◌, ℕ, ◌*◌, ◌^◌, ◌<◌, ◌≤◌, get_or, replicate, sym, refl, ap, ◌∙◌, subst, mul-le-mul, arith}
 use Rattle.std.proofs.lemmas.List.{get_or-replicate}
-use Rattle.rankings.specs.Costs.{Cost, Within, Modest, times, zero}
+use Rattle.rankings.specs.Costs.{Cost, Within, times, zero}
 use Rattle.rankings.proofs.Sizes.{within_more, times_within}
 use Rattle.table.specs.declared.table.Table.{Table}
 use Rattle.table.proofs.Soundness.{sound_table}

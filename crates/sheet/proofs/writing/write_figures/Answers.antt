@@ -1,5 +1,5 @@
 use Rattle.std.proofs.Common.{ℕ, Some, arith}
-use Rattle.lines.specs.Lines.{Entry, entry_of}
+use Rattle.lines.specs.Lines.{Entry}
 use Rattle.sheet.specs.Render.{figure_entry}
 use Rattle.sheet.proofs.Series.{writes_nothing, line_more, line_short}
 use Rattle.sheet.proofs.writing.write_figures.Goals as goal

@@ -1,5 +1,5 @@
 use Rattle.std.proofs.Common.{ℕ, Some, ap, ◌∙◌, arith}
-use Rattle.lines.specs.Lines.{Entry, entry_of}
+use Rattle.lines.specs.Lines.{Entry}
 use Rattle.sheet.specs.Render.{labels_of, grade_entry}
 use Rattle.sheet.proofs.Series.{writes_nothing, line_more, line_short}
 use Rattle.sheet.proofs.writing.write_grades.Goals as goal

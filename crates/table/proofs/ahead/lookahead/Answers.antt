@@ -1,5 +1,5 @@
-use Rattle.std.proofs.Common.{◌≡◌, ◌*◌, ◌^◌, Some, sym, ap, ◌∙◌, arith}
-use Rattle.rankings.specs.Costs.{Within, Modest, plus, times}
+use Rattle.std.proofs.Common.{◌≡◌, ◌*◌, Some, sym, ap, ◌∙◌, arith}
+use Rattle.rankings.specs.Costs.{plus, times}
 use Rattle.table.specs.Chains.{row_at}
 use Rattle.table.specs.Lookahead.{scaling, figure_at, X}
 use Rattle.table.proofs.Magnitudes.{fine-≤, own_within, own_modest, later_within, later_modest, both_within, scaled_modest}

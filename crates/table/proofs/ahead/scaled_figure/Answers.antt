@@ -1,4 +1,4 @@
-use Rattle.std.proofs.Common.{◌-◌, ◌*◌, ◌^◌, arith}
+use Rattle.std.proofs.Common.{◌-◌, ◌^◌, arith}
 use Rattle.rankings.specs.Costs.{times}
 use Rattle.rankings.proofs.Sizes.{times_within}
 use Rattle.table.specs.Lookahead.{figure_at, scaling}

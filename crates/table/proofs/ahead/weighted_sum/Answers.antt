@@ -1,4 +1,4 @@
-use Rattle.std.proofs.Common.{◌≡◌, ◌+◌, ◌-◌, ◌*◌, ◌^◌, sym, refl, ap, ◌∙◌, arith}
+use Rattle.std.proofs.Common.{◌≡◌, ◌+◌, ◌-◌, ◌*◌, ◌^◌, sym, ap, ◌∙◌, arith}
 use Rattle.rankings.specs.Costs.{plus, times}
 use Rattle.rankings.specs.Algebra.{plus_assoc, plus_zero, zero_plus}
 use Rattle.rankings.proofs.Sizes.{within_more, times_within}
@@ -6,7 +6,7 @@ use Rattle.table.specs.Chains.{walk, next_arc, row_at, arc_at, arcs_of, weights}
 use Rattle.table.specs.Lookahead.{figure_at, mean}
 use Rattle.table.proofs.Walks.{walk_in, walk_end}
 use Rattle.table.proofs.Faultless.{balanced}
-use Rattle.table.proofs.Means.{Budget, budget_start, budget_within, budget_step, figure_within}
+use Rattle.table.proofs.Means.{budget_start, budget_within, budget_step, figure_within}
 use Rattle.table.proofs.ahead.weighted_sum.Goals as goal
 
 pub loop-turn-init : goal.loop-turn-init

@@ -1,4 +1,4 @@
-use Rattle.std.proofs.Common.{◌≡◌, ℕ, sym, refl, ◌∙◌, arith}
+use Rattle.std.proofs.Common.{◌≡◌, ℕ, sym, refl, arith}
 use Rattle.table.proofs.Soundness.{sound_exactly, walked}
 use Rattle.table.proofs.check.check_table.Goals as goal
 

@@ -1,4 +1,4 @@
-use Rattle.std.proofs.Common.{◌≡◌, refl, arith}
+use Rattle.std.proofs.Common.{refl, arith}
 use Rattle.rankings.specs.Costs.{zero}
 use Rattle.table.proofs.Filings.{copy_none, copy_more, copy_all}
 use Rattle.table.proofs.filing.columns.Goals as goal

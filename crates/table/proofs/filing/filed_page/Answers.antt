@@ -1,7 +1,7 @@
-use Rattle.std.proofs.Common.{◌≡◌, ◌-◌, length, Some, None, sym, refl, ap, ◌∙◌, arith}
+use Rattle.std.proofs.Common.{◌≡◌, ◌-◌, length, sym, refl, ap, ◌∙◌, arith}
 use Rattle.table.specs.Faults.{lowest}
-use Rattle.table.specs.Filing.{filed_rows, filed_floors, filed_ceilings, outsized}
-use Rattle.table.proofs.Filings.{plan_same, stray_same, floors_same, floor_same, ceilings_same, ceiling_same, fault_floor, fault_ceiling, fault_none, none_outsized, copied_in, planned_in}
+use Rattle.table.specs.Filing.{outsized}
+use Rattle.table.proofs.Filings.{stray_same, floor_same, ceiling_same, fault_floor, fault_ceiling, fault_none, none_outsized, copied_in, planned_in}
 use Rattle.table.proofs.Soundness.{sound_table}
 use Rattle.table.proofs.filing.filed_page.Goals as goal
 

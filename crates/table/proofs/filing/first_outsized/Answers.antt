@@ -1,4 +1,4 @@
-use Rattle.std.proofs.Common.{◌≡◌, ◌+◌, ◌-◌, not, length, sym, refl, ap, ◌∙◌, arith}
+use Rattle.std.proofs.Common.{◌+◌, ◌-◌, not, length, sym, refl, ap, ◌∙◌, arith}
 use Rattle.table.specs.Filing.{outsized}
 use Rattle.table.proofs.Filings.{outsized_at}
 use Rattle.table.proofs.Searches.{found_here, found_later}

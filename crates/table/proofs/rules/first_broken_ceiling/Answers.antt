@@ -1,4 +1,4 @@
-use Rattle.std.proofs.Common.{◌≡◌, ◌+◌, ◌-◌, not, sym, ap, ◌∙◌, arith}
+use Rattle.std.proofs.Common.{◌+◌, ◌-◌, not, sym, ap, ◌∙◌, arith}
 use Rattle.table.specs.Lookahead.{figure_at}
 use Rattle.table.specs.Rules.{breaks_ceiling}
 use Rattle.table.proofs.Pairs.{only_here, only_later}

@@ -1,4 +1,4 @@
-use Rattle.std.proofs.Common.{◌≡◌, ◌+◌, ◌-◌, not, sym, ap, ◌∙◌, arith}
+use Rattle.std.proofs.Common.{◌+◌, ◌-◌, not, sym, ap, ◌∙◌, arith}
 use Rattle.table.specs.Rules.{strays}
 use Rattle.table.proofs.Pairs.{only_here, only_later}
 use Rattle.table.proofs.rules.first_stray.Goals as goal

@@ -1,4 +1,4 @@
-use Rattle.std.proofs.Common.{◌≡◌, ◌+◌, ◌-◌, sym, refl, ap, ◌∙◌, arith}
+use Rattle.std.proofs.Common.{◌+◌, ◌-◌, ap, arith}
 use Rattle.table.specs.Chains.{next_arc, weights}
 use Rattle.table.proofs.Walks.{walk_in, walk_end}
 use Rattle.table.proofs.weights.row_weight.Goals as goal
