@@ -10,7 +10,7 @@ use Rattle.table.specs.Rules.{figures_fault}
 use Rattle.planner.specs.Start.{Start}
 use Rattle.planner.specs.Sweeps.{shown, sweeps}
 use Rattle.sheet.specs.declared.whole.Sheet.{Sheet}
-use Rattle.sheet.specs.Refused.{Refused}
+use Rattle.sheet.specs.Refused.{FirstRefused}
 use Rattle.sheet.specs.Whole.{SheetIn}
 use Rattle.sheet.specs.Written.{Wrote, shown_of}
 use Rattle.book.specs.declared.calls.SweepCount.{SweepCount}
@@ -47,7 +47,7 @@ module _ (le : Cost → Cost → Bool) (text : List ℕ) where
 
   -- why a sheet is not opened: its text, then its table, then its figures
   abbrev pub NotOpened : Refusal → Type 0
-  NotOpened (Text f) = Refused text f
+  NotOpened (Text f) = FirstRefused text f
   NotOpened (Table f) = (s : Sheet) × TableBroken f s
   NotOpened (Figures f) = (s : Sheet) × FiguresBroken f s
   NotOpened NoTable = ⊥

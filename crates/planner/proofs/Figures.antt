@@ -11,7 +11,7 @@ use Rattle.table.specs.Chains.{walk, row_at, next_arc, arcs_of, weights}
 use Rattle.table.specs.Sound.{Sound}
 use Rattle.table.specs.Lookahead.{mean, scaling, X}
 use Rattle.table.proofs.Soundness.{arcs_end}
-use Rattle.table.specs.Kept.{PlanRule, FloorRule, CeilingRule}
+use Rattle.table.specs.Kept.{PlanRule, FloorRule, PlanCeilingRule}
 use Rattle.table.proofs.Keeping.{row_in}
 use Rattle.planner.specs.Policies.{Policy, E, last, always, dearest_figure, FloorsBound, CeilingsBound}
 use Rattle.planner.proofs.Averages.{Leads, mean_times, mean_plus, le_mean}
@@ -93,7 +93,7 @@ module _ (le : Cost → Cost → Bool) (o : Ordered le) (l : Linear le) (t : Tab
       subst (λ y. le (times (m ^ suc n) (w g)) y ≡ true) out
       (chain3 (times (m ^ suc n) (w g)) (plus x (times a low)) (plus x (times a high)) (subst (λ y. le (times (m ^ suc n) (w g)) y ≡ true) (grown t k n w) stay) step)
 
-  ceilings : (plan : ℕ → ℕ) (w : ℕ → Cost) → PlanRule t plan → CeilingRule le t plan w → (c : Cost) → ((g : ℕ) → Within 1 t.grades g → le (negated (w g)) c ≡ true) → (n : ℕ) (past : List ℕ) (g : ℕ) → Within 1 t.grades g →
+  ceilings : (plan : ℕ → ℕ) (w : ℕ → Cost) → PlanRule t plan → PlanCeilingRule le t plan w → (c : Cost) → ((g : ℕ) → Within 1 t.grades g → le (negated (w g)) c ≡ true) → (n : ℕ) (past : List ℕ) (g : ℕ) → Within 1 t.grades g →
       le (E t (always plan) n (past ++ g ∷ [])) (plus (times (scaling t ^ n) (w g)) (times ((t.numerator * t.total) ^ n) c)) ≡ true
   ceilings plan w p f c top none past g h =
       let right : plus (times (scaling t ^ none) (w g)) (times ((t.numerator * t.total) ^ none) c) ≡ plus (w g) c =
@@ -129,4 +129,4 @@ pub floors_bound : FloorsBound
 floors_bound le o l t sound w f names policy n g h = floors le o l t sound w f (dearest_figure le t w) (λ d b. dearest_of o w t.grades d b) names policy n [] g h
 
 pub ceilings_bound : CeilingsBound
-ceilings_bound le o l t sound plan w p f n g h = ceilings le o l t sound plan w p f (dearest_figure le t (λ d. negated (w d))) (λ d b. dearest_of o (λ d. negated (w d)) t.grades d b) n [] g h
+ceilings_bound le o l t sound plan w f n g h = ceilings le o l t sound plan w (λ d b. (f d b).0) (λ d b. (f d b).1) (dearest_figure le t (λ d. negated (w d))) (λ d b. dearest_of o (λ d. negated (w d)) t.grades d b) n [] g h

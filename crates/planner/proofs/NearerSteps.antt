@@ -10,7 +10,7 @@ use Rattle.table.specs.Ranges.{Within, FigureIn, FiguresIn}
 use Rattle.table.specs.Lookahead.{figure_at, scaling, X}
 use Rattle.table.specs.Rules.{plan_row}
 use Rattle.table.specs.Sound.{Sound}
-use Rattle.table.specs.Kept.{RowOf, PlanRule, FloorRule, CeilingRule}
+use Rattle.table.specs.Kept.{RowOf, PlanRule, FloorRule, PlanCeilingRule}
 use Rattle.table.proofs.Keeping.{row_in}
 use Rattle.planner.specs.declared.choice.Choice.{Choice}
 use Rattle.planner.specs.Sweeps.{Shown}
@@ -88,7 +88,7 @@ module _ (le : Cost → Cost → Bool) (o : Ordered le) (l : Linear le) (t : Tab
   planned : PlanRule t plan
   planned g h = ⊎_elim (λ e. subst (RowOf t g) (sym e.2) (sk.planned g h)) (λ e. subst (RowOf t g) (sym e.2) (rk.planned g h)) (ceiling_taken g h)
 
-  high : CeilingRule le t plan nc
+  high : PlanCeilingRule le t plan nc
   high g h =
       let inside = row_in t g (plan g) (planned g h) in
       ⊎_elim

@@ -8,7 +8,7 @@ use Rattle.table.specs.Ranges.{Within, FigureIn, FiguresIn}
 use Rattle.table.specs.Lookahead.{figure_at, scaling, X}
 use Rattle.table.specs.Rules.{plan_row}
 use Rattle.table.specs.Sound.{Sound}
-use Rattle.table.specs.Kept.{RowOf, PlanRule, CeilingRule}
+use Rattle.table.specs.Kept.{RowOf, PlanRule, PlanCeilingRule}
 use Rattle.table.proofs.Keeping.{row_in}
 use Rattle.table.proofs.Lookaheads.{ahead_some}
 use Rattle.table.proofs.Magnitudes.{scaling-≤, scaling_some, scaled_modest}
@@ -57,7 +57,7 @@ module _ (le : Cost → Cost → Bool) (cheap dear : Cost → ℕ → Cost) (o :
   taken : (g : ℕ) → Within 1 t.grades g → (le (d g) (c g) ≡ true) × ((d g ≡ c g) ⊎ (d g ≡ y g))
   taken g h = taken_cheaper le o l t (y g) (c g) (d g) (ceiling_is g h)
 
-  eased_rule : CeilingRule le t plan d
+  eased_rule : PlanCeilingRule le t plan d
   eased_rule = ceilings_sink le o l t plan c d k.planned (λ g h. (taken g h).0) (λ g h. ⊎_elim
       (λ e. subst (λ x. le (X t (plan g) c) (times (scaling t) x) ≡ true) (sym e) (k.high g h))
       (λ e. subst (λ x. le (X t (plan g) c) (times (scaling t) x) ≡ true) (sym e) (y_above g h))
@@ -86,7 +86,7 @@ module _ (le : Cost → Cost → Bool) (cheap dear : Cost → ℕ → Cost) (o :
       (λ e. subst (RowOf t g) (sym e.1) (best_row le cheap dear o l laws t sound (eased_ceilings le dear t s) eased_in g h))
       (row_taken g h)
 
-  round_rule : CeilingRule le t planned d
+  round_rule : PlanCeilingRule le t planned d
   round_rule g h = ⊎_elim
       (λ e. subst (λ j. le (X t j d) (times (scaling t) (d g)) ≡ true) (sym e) (eased_rule g h))
       (λ e.

@@ -7,7 +7,7 @@ use Rattle.rankings.proofs.Derived.{reflexive, opposite}
 use Rattle.table.specs.declared.table.Table.{Table}
 use Rattle.table.specs.Ranges.{Within}
 use Rattle.table.specs.Lookahead.{scaling, X}
-use Rattle.table.specs.Kept.{RowOf, PlanRule, FloorRule, CeilingRule}
+use Rattle.table.specs.Kept.{RowOf, PlanRule, FloorRule, PlanCeilingRule}
 use Rattle.table.proofs.Keeping.{row_in}
 use Rattle.planner.proofs.Ahead.{X-le}
 use Rattle.planner.proofs.Replacing.{or_old}
@@ -39,5 +39,5 @@ module _ (le : Cost → Cost → Bool) (o : Ordered le) (l : Linear le) (t : Tab
   floors_rise w v up room g k r = o.trans (times (scaling t) (v g)) (X t k w) (X t k v) (room g k r) (X-le le o l t w v up k (row_in t g k r))
 
   -- ceilings that sink, each no lower than its plan row needs by the old ones
-  pub ceilings_sink : (plan : ℕ → ℕ) (w v : ℕ → Cost) → PlanRule t plan → ((g : ℕ) → Within 1 t.grades g → le (v g) (w g) ≡ true) → ((g : ℕ) → Within 1 t.grades g → le (X t (plan g) w) (times (scaling t) (v g)) ≡ true) → CeilingRule le t plan v
+  pub ceilings_sink : (plan : ℕ → ℕ) (w v : ℕ → Cost) → PlanRule t plan → ((g : ℕ) → Within 1 t.grades g → le (v g) (w g) ≡ true) → ((g : ℕ) → Within 1 t.grades g → le (X t (plan g) w) (times (scaling t) (v g)) ≡ true) → PlanCeilingRule le t plan v
   ceilings_sink plan w v p down room g h = o.trans (X t (plan g) v) (X t (plan g) w) (times (scaling t) (v g)) (X-le le o l t v w down (plan g) (row_in t g (plan g) (p g h))) (room g h)

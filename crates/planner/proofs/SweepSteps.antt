@@ -11,7 +11,7 @@ use Rattle.table.specs.Chains.{rows_of}
 use Rattle.table.specs.Lookahead.{figure_at, scaling, X}
 use Rattle.table.specs.Rules.{has, plan_row}
 use Rattle.table.specs.Sound.{Sound}
-use Rattle.table.specs.Kept.{RowOf, PlanRule, FloorRule, CeilingRule}
+use Rattle.table.specs.Kept.{RowOf, PlanRule, FloorRule, PlanCeilingRule}
 use Rattle.table.proofs.Keeping.{row_in, row_walked, walked_row}
 use Rattle.table.proofs.Magnitudes.{scaling-≤, scaling_some, scaled_modest}
 use Rattle.planner.specs.declared.choice.Choice.{Choice}
@@ -140,7 +140,7 @@ module _ (le : Cost → Cost → Bool) (cheap dear : Cost → ℕ → Cost) (o :
       (λ e. subst (RowOf t g) (sym e.2) (best_row le cheap dear o l laws t sound s.ceilings r.ceilings_in g h))
       (ceiling_taken g h)
 
-  pub swept_ceilings : PlanRule t plan → CeilingRule le t plan c → CeilingRule le t planned d
+  pub swept_ceilings : PlanRule t plan → PlanCeilingRule le t plan c → PlanCeilingRule le t planned d
   swept_ceilings rows rule = ceilings_sink le o l t planned c d (plan_kept rows) ceilings_down (λ g h. ⊎_elim
       (λ e. subst (λ k. le (X t k c) (times (scaling t) (d g)) ≡ true) (sym e.2) (subst (λ x. le (X t (plan g) c) (times (scaling t) x) ≡ true) (sym e.1) (rule g h)))
       (λ e.

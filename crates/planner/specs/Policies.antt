@@ -6,8 +6,8 @@ use Rattle.table.specs.declared.table.Table.{Table}
 use Rattle.table.specs.Ranges.{Within}
 use Rattle.table.specs.Chains.{row_at, arcs_of}
 use Rattle.table.specs.Sound.{Sound}
-use Rattle.table.specs.Lookahead.{mean, scaling}
-use Rattle.table.specs.Kept.{RowOf, PlanRule, FloorRule, CeilingRule}
+use Rattle.table.specs.Lookahead.{mean, scaling, X}
+use Rattle.table.specs.Kept.{RowOf, FloorRule}
 use Rattle.planner.specs.Start.{dearest_among}
 
 -- a policy (a rule over the past) names, for every list of grades seen, the present one last, a row of the present grade
@@ -30,6 +30,11 @@ last (g ∷ h ∷ gs) = last (h ∷ gs)
 abbrev pub always : (ℕ → ℕ) → List ℕ → ℕ
 always plan past = plan (last past)
 
+module _ (le : Cost → Cost → Bool) (t : Table) where
+  -- ceiling rule: X(plan row, ceilings) is no dearer than b · D · the ceiling
+  abbrev pub CeilingRule : (ℕ → ℕ) → (ℕ → Cost) → Type 0
+  CeilingRule plan w = (g : ℕ) → Within 1 t.grades g → RowOf t g (plan g) × (le (X t (plan g) w) (times (scaling t) (w g)) ≡ true)
+
 -- w 1, .., w n
 abbrev pub up_to : (ℕ → Cost) → ℕ → List Cost
 up_to w none = []
@@ -47,6 +52,6 @@ FloorsBound = (le : Cost → Cost → Bool) → Ordered le → Linear le → (t 
 
 -- the plan costs no more than the ceilings say, but for such a tail
 abbrev pub CeilingsBound : Type 0
-CeilingsBound = (le : Cost → Cost → Bool) → Ordered le → Linear le → (t : Table) → Sound t → (plan : ℕ → ℕ) (w : ℕ → Cost) → PlanRule t plan → CeilingRule le t plan w →
+CeilingsBound = (le : Cost → Cost → Bool) → Ordered le → Linear le → (t : Table) → Sound t → (plan : ℕ → ℕ) (w : ℕ → Cost) → CeilingRule le t plan w →
     (n g : ℕ) → Within 1 t.grades g →
     le (E t (always plan) n (g ∷ [])) (plus (times (scaling t ^ n) (w g)) (times ((t.numerator * t.total) ^ n) (dearest_figure le t (λ h. negated (w h))))) ≡ true

@@ -5,7 +5,7 @@ use Rattle.rankings.specs.Costs.{Cost, times, zero}
 use Rattle.table.specs.declared.page.Page.{Page}
 use Rattle.table.specs.declared.table.Table.{Table}
 use Rattle.table.specs.Chains.{row_at}
-use Rattle.planner.specs.Sweeps.{Shown, shown}
+use Rattle.planner.specs.Sweeps.{Shown}
 
 -- the costs of n rows from the row k on
 abbrev pub costs_from : Table → ℕ → ℕ → List Cost
@@ -52,4 +52,6 @@ start_of le t = record { rows = t.first_row; floors = replicate 32 (start_figure
 
 -- a page with start figures
 pub record Start (le : Cost → Cost → Bool) (p : Page) : Type 0 where
-  pub is : shown p.figures ≡ start_of le p.sound.table
+  pub rows : p.figures.row ≡ p.sound.table.first_row
+  pub floors : p.figures.floor.at ≡ replicate 32 (start_figure p.sound.table (cheapest_cost le p.sound.table))
+  pub ceilings : p.figures.ceiling.at ≡ replicate 32 (start_figure p.sound.table (dearest_cost le p.sound.table))

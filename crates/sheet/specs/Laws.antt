@@ -10,14 +10,14 @@ use Rattle.lines.specs.declared.fault.TextFault.TheVariants as fault
 use Rattle.sheet.specs.declared.whole.Sheet.{Sheet}
 use Rattle.sheet.specs.declared.write_fault.WriteFault.{WriteFault}
 use Rattle.sheet.specs.Read.{PlansIn}
-use Rattle.sheet.specs.Refused.{Refused}
+use Rattle.sheet.specs.Refused.{FirstRefused}
 use Rattle.sheet.specs.Render.{labels_of, render}
 use Rattle.sheet.specs.Whole.{SheetIn}
 use Rattle.sheet.specs.Written.{Wrote, relabelled}
 
 -- a sheet has one first refusal at most
 abbrev pub RefusedOnce : Type 0
-RefusedOnce = (bs : List ℕ) (f g : TextFault) → Refused bs f → Refused bs g → f ≡ g
+RefusedOnce = (bs : List ℕ) (f g : TextFault) → FirstRefused bs f → FirstRefused bs g → f ≡ g
 
 -- a line of the longest sheet that is due, or the one after it; a number can be wrong only before the line `end`
 abbrev pub LineIn : TextFault → Type 0
@@ -28,7 +28,7 @@ LineIn (fault.NoLine p) = ⊥
 
 -- the first refusal names such a line, or none
 abbrev pub RefusedLines : Type 0
-RefusedLines = (bs : List ℕ) (f : TextFault) → Refused bs f → LineIn f
+RefusedLines = (bs : List ℕ) (f : TextFault) → FirstRefused bs f → LineIn f
 
 -- what a sheet can say: a table, figures or none with each plan row one of the rows, and a label for each grade and row; all other ranges are the table's and the figures' own
 pub record Content (t : Table) (f : Option Figures) (gradeLabel row_label : ℕ → List ℕ) : Type 0 where
@@ -82,12 +82,12 @@ RenderingShort = (t : Table) (f : Option Figures) (gl rl : ℕ → List ℕ) →
 -- no rendering is refused
 abbrev pub RenderingRead : Type 0
 RenderingRead =
-    (bs : List ℕ) (t : Table) (f : Option Figures) (gl rl : ℕ → List ℕ) → Content t f gl rl → bs ≡ render t f gl rl → (e : TextFault) → Refused bs e → ⊥
+    (bs : List ℕ) (t : Table) (f : Option Figures) (gl rl : ℕ → List ℕ) → Content t f gl rl → bs ≡ render t f gl rl → (e : TextFault) → FirstRefused bs e → ⊥
 
 -- an answer for a sheet's bytes: what they say, or their first refusal
 abbrev pub Answered : List ℕ → Result Sheet TextFault → Type 0
 Answered bs (Ok s) = SheetIn bs s
-Answered bs (Err e) = Refused bs e
+Answered bs (Err e) = FirstRefused bs e
 
 -- the answer is no refusal, and says that table with those figures and labels
 abbrev pub Says : List ℕ → Result Sheet TextFault → Table → Option Figures → (ℕ → List ℕ) → (ℕ → List ℕ) → Type 0

@@ -52,8 +52,8 @@ pub record HeaderTaken (bs : List ℕ) (c : Counts) (rest : List ℕ) : Type 0 w
   pub ranged : Counted c
 
 -- 1 where the sheet is too long; else line by line, from the first
-abbrev pub Refused : List ℕ → TextFault → Type 0
-Refused bs f =
+abbrev pub FirstRefused : List ℕ → TextFault → Type 0
+FirstRefused bs f =
     ((32768 < length bs) × (f ≡ fault.TooLong))
     ⊎ ((length bs ≤ 32768) × ((Headless bs × (f ≡ fault.Form 1))
     ⊎ ((HeaderWrong bs × (f ≡ fault.Range 1))

@@ -1,6 +1,7 @@
 -- What reading a whole sheet promises. Assumes nothing.
 use Rattle.std.specs.Prelude.{◌≡◌, ℕ, ◌<◌, ◌≤◌, List, length}
 use Rattle.text.specs.Fields.{Label}
+use Rattle.table.specs.Ranges.{Within}
 use Rattle.lines.specs.declared.fault.TextFault.{TextFault}
 use Rattle.lines.specs.declared.fault.TextFault.TheVariants as fault
 use Rattle.sheet.specs.declared.whole.Sheet.{Sheet}
@@ -17,6 +18,13 @@ pub record SheetIn (sheet : List ℕ) (s : Sheet) : Type 0 where
   pub row_labels : (i : ℕ) → i < s.table.rows → Label (labels_of sheet s.labels.row i)
   pub plans : PlansIn s.table.grades s.table.rows s.figures
   pub text : sheet ≡ render s.table s.figures (labels_of sheet s.labels.grade) (labels_of sheet s.labels.row)
+
+-- a sheet of n bytes: 1 exactly where it is too long, and else a line's fault
+abbrev pub Refused : ℕ → TextFault → Type 0
+Refused n fault.TooLong = 32768 < n
+Refused n (fault.Form l) = (n ≤ 32768) × Within 1 675 l
+Refused n (fault.Range l) = (n ≤ 32768) × Within 1 673 l
+Refused n (fault.NoLine p) = ⊥
 
 -- the line of a fault, 0 where it is none of a line
 abbrev pub line_of : TextFault → ℕ

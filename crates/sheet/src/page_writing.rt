@@ -1,5 +1,5 @@
 ghost use Rattle.sheet.specs.Laws.{Kept, Back};
-ghost use Rattle.sheet.specs.Written.{Wrote, shown_of};
+ghost use Rattle.sheet.specs.Written.{Wrote, OldTold, shown_of};
 
 use crate::write_fault::WriteFault;
 use crate::writing::write;
@@ -14,6 +14,7 @@ pub fn write_page(
     old: &[u8],
 ) -> Result<usize, WriteFault>
     ensures wrote { Wrote out.old old.now page.now.sound.table (shown_of figured page.now.figures) result out.new }
+    ensures old { OldTold old.now page.now.sound.table result }
     ensures kept { Kept old.now page.now.sound.table (shown_of figured page.now.figures) result out.new }
     ensures back { Back old.now page.now.sound.table (shown_of figured page.now.figures) result out.new }
 {

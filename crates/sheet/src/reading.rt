@@ -1,7 +1,8 @@
-ghost use Rattle.std.specs.Prelude.{◌≡◌, ◌+◌, ◌<◌, ◌≤◌, drop, Ok, Err};
+ghost use Rattle.std.specs.Prelude.{◌≡◌, ◌+◌, ◌<◌, ◌≤◌, length, drop, Ok, Err};
 ghost use Rattle.lines.specs.Lines.{line_text, end};
 ghost use Rattle.sheet.specs.Halts.{counts_of, EndFault};
 ghost use Rattle.sheet.specs.Laws.{Answered, Once, Exactly};
+ghost use Rattle.sheet.specs.Whole.{SheetIn, Refused};
 
 use crate::arc_reading::read_arcs;
 use crate::figure_reading::read_figures;
@@ -79,6 +80,7 @@ pub(crate) fn read_sheet(sheet: &[u8]) -> Result<Sheet, TextFault>
 /// What a whole sheet says, or the first refusal of its text. It is the only answer that those bytes have, and for a
 /// rendering it is what was rendered.
 pub fn read(sheet: &[u8]) -> Result<Sheet, TextFault>
+    ensures says { elim result [ Ok s ↦ SheetIn sheet.now s | Err e ↦ Refused (length sheet.now) e ] }
     ensures answered { Answered sheet.now result }
     ensures once { Once sheet.now result }
     ensures exactly { Exactly sheet.now result }

@@ -5,7 +5,7 @@ ghost use Rattle.sheet.specs.Read.{PlansIn};
 ghost use Rattle.sheet.specs.Render.{labels_of, grades_text, rows_text, arcs_text, figures_text, figure_part, figures_of, render};
 ghost use Rattle.sheet.specs.Spans.{SpansIn};
 ghost use Rattle.sheet.specs.Whole.{line_of};
-ghost use Rattle.sheet.specs.Written.{Wrote};
+ghost use Rattle.sheet.specs.Written.{Wrote, OldTold};
 
 use crate::labels::{Labels, Span};
 use crate::reading::{MAX_SHEET, read_sheet};
@@ -139,7 +139,8 @@ pub(crate) fn write(
     old: &[u8],
 ) -> Result<usize, WriteFault>
     requires { PlansIn table.now.grades table.now.rows figures.now }
-    ensures { Wrote out.old old.now table.now figures.now result out.new }
+    ensures wrote { Wrote out.old old.now table.now figures.now result out.new }
+    ensures old { OldTold old.now table.now result }
 {
     let sheet = match read_sheet(old) {
         Ok(sheet) => sheet,

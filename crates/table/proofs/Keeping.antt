@@ -12,7 +12,7 @@ use Rattle.table.specs.Chains.{next_row, first_row, rows_of}
 use Rattle.table.specs.Lookahead.{figure_at, scaling, X}
 use Rattle.table.specs.Rules.{has, first_in, first_pair, plan_row, plan_only, strays, keeps_floor, keeps_ceiling, breaks_floor, breaks_ceiling, first_stray, first_floor, first_ceiling, or_later, figures_fault}
 use Rattle.table.specs.Sound.{Chain, Sound}
-use Rattle.table.specs.Kept.{RowOf, PlanRule, FloorRule, CeilingRule, Keeps, Tells, KeptExactly}
+use Rattle.table.specs.Kept.{RowOf, PlanRule, FloorRule, PlanCeilingRule, Keeps, Tells, KeptExactly}
 use Rattle.table.proofs.Lookaheads.{ahead_some}
 use Rattle.table.proofs.Pairs.{in_here, in_later}
 use Rattle.table.proofs.Soundness.{chain_same, rows_end}
@@ -126,13 +126,13 @@ module _ (le : Cost → Cost → Bool) (t : Table) (s : Sound t) where
       let r = walked_row t s i k (lo, omega arith) h in
       floor_is le t (figure_at ws) i k (row_in t i k r) ∙ ap not (f i k r))
 
-  pub none_high : (rows : List ℕ) (ws : List Cost) → PlanRule t (plan_row rows) → first_ceiling le t rows ws ≡ None → CeilingRule le t (plan_row rows) (figure_at ws)
+  pub none_high : (rows : List ℕ) (ws : List Cost) → PlanRule t (plan_row rows) → first_ceiling le t rows ws ≡ None → PlanCeilingRule le t (plan_row rows) (figure_at ws)
   none_high rows ws p e g h =
       let k = plan_row rows g in
       not-false (le (X t k (figure_at ws)) (times (scaling t) (figure_at ws g)))
       (sym (ceiling_is le t (figure_at ws) g k (row_in t g k (p g h))) ∙ pair_tells (breaks_ceiling le t (figure_at ws)) (plan_only rows) t.grades 1 e g h.0 (omega (arith, h.1)) k (has_only k))
 
-  pub high_none : (rows : List ℕ) (ws : List Cost) → PlanRule t (plan_row rows) → CeilingRule le t (plan_row rows) (figure_at ws) → first_ceiling le t rows ws ≡ None
+  pub high_none : (rows : List ℕ) (ws : List Cost) → PlanRule t (plan_row rows) → PlanCeilingRule le t (plan_row rows) (figure_at ws) → first_ceiling le t rows ws ≡ None
   high_none rows ws p c =
       tells_pair (breaks_ceiling le t (figure_at ws)) (plan_only rows) t.grades 1 (λ i lo hi k h.
       let g : Within 1 t.grades i = (lo, omega arith) in

@@ -25,13 +25,13 @@ module _ (le : Cost → Cost → Bool) (t : Table) where
   FloorRule w = (g k : ℕ) → RowOf t g k → le (times (scaling t) (w g)) (X t k w) ≡ true
 
   -- X(plan row, ceilings) is no dearer than b · D · the ceiling
-  abbrev pub CeilingRule : (ℕ → ℕ) → (ℕ → Cost) → Type 0
-  CeilingRule plan w = (g : ℕ) → Within 1 t.grades g → le (X t (plan g) w) (times (scaling t) (w g)) ≡ true
+  abbrev pub PlanCeilingRule : (ℕ → ℕ) → (ℕ → Cost) → Type 0
+  PlanCeilingRule plan w = (g : ℕ) → Within 1 t.grades g → le (X t (plan g) w) (times (scaling t) (w g)) ≡ true
 
   pub record Kept (plan : ℕ → ℕ) (floors ceilings : ℕ → Cost) : Type 0 where
     pub planned : PlanRule t plan
     pub low : FloorRule floors
-    pub high : CeilingRule plan ceilings
+    pub high : PlanCeilingRule plan ceilings
 
 -- of figures for a table
 abbrev pub Keeps : (Cost → Cost → Bool) → Table → Figures → Type 0

@@ -50,4 +50,4 @@ returns g c =
     let high = c.scale-highest.ensures.is ∙ ap (start_figure t) c.dearest_cost.ensures.is in
     let start : ◌≡◌ {A = Shown} (record { rows = t.first_row; floors = replicate 32 c.scale-lowest.result; ceilings = replicate 32 c.scale-highest.result }) (start_of le t) =
     (λ i. record { rows = t.first_row; floors = replicate 32 (low i); ceilings = replicate 32 (high i) }) in
-    record { table = refl; start = record { is = start }; extremes = extremes le (g.met.R.Ranking.ordered s) t; keeps = subst (ShownKept le t) (sym start) (start_keeps le (g.met.R.Ranking.ordered s) (g.met.R.Ranking.linear s) t (sound_table c.args.sound.now)) }
+    record { table = refl; start = record { rows = refl; floors = ap (replicate 32) low; ceilings = ap (replicate 32) high }; extremes = extremes le (g.met.R.Ranking.ordered s) t; keeps = subst (ShownKept le t) (sym start) (start_keeps le (g.met.R.Ranking.ordered s) (g.met.R.Ranking.linear s) t (sound_table c.args.sound.now)) }

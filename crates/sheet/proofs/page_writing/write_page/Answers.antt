@@ -19,6 +19,7 @@ returns c =
     let wrote : Wrote c.args.out.now c.args.old.now table shown c.write.result c.write.new.out = search rules in
     record {
       wrote = wrote;
+      old = c.write.ensures.old;
       kept = written_kept c.args.out.now c.args.old.now c.write.new.out table shown c.write.result wrote;
       back = written_back c.args.out.now c.args.old.now c.write.new.out table shown c.write.result (shown-plans c.args.figured table.grades table.rows page.figures page.planned) wrote;
     }
