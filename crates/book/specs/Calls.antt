@@ -1,5 +1,5 @@
 -- What the calls on a book answer, and what they leave in it. Assumes nothing.
-use Rattle.std.specs.Prelude.{◌≡◌, ℕ, ◌<◌, ◌≤◌, Bool, ◌⊎◌, List, Some, None, Ok, Err, Option, Result}
+use Rattle.std.specs.Prelude.{◌≡◌, ℕ, ◌<◌, ◌≤◌, Bool, ◌⊎◌, List, length, Some, None, Ok, Err, Option, Result}
 use Rattle.rankings.specs.Costs.{Cost}
 use Rattle.table.specs.declared.page.Page.{Page}
 use Rattle.table.specs.declared.figures.Figures.{Figures as Lines}
@@ -11,8 +11,8 @@ use Rattle.planner.specs.Start.{Start}
 use Rattle.planner.specs.Sweeps.{shown, sweeps}
 use Rattle.sheet.specs.declared.whole.Sheet.{Sheet}
 use Rattle.sheet.specs.Refused.{FirstRefused}
-use Rattle.sheet.specs.Whole.{SheetIn}
-use Rattle.sheet.specs.Written.{Wrote, shown_of}
+use Rattle.sheet.specs.Whole.{SheetIn, Refused}
+use Rattle.sheet.specs.Written.{Wrote, OldTold, shown_of}
 use Rattle.book.specs.declared.calls.SweepCount.{SweepCount}
 use Rattle.book.specs.declared.refusal.Refusal.{Refusal}
 use Rattle.book.specs.declared.refusal.Refusal.TheVariants.{Text, Table, Figures, NoTable, Sweeps, Write}
@@ -47,7 +47,7 @@ module _ (le : Cost → Cost → Bool) (text : List ℕ) where
 
   -- why a sheet is not opened: its text, then its table, then its figures
   abbrev pub NotOpened : Refusal → Type 0
-  NotOpened (Text f) = FirstRefused text f
+  NotOpened (Text f) = Refused (length text) f
   NotOpened (Table f) = (s : Sheet) × TableBroken f s
   NotOpened (Figures f) = (s : Sheet) × FiguresBroken f s
   NotOpened NoTable = ⊥
@@ -65,6 +65,15 @@ module _ (le : Cost → Cost → Bool) (text : List ℕ) where
   Opened before (Ok u) None = ⊥
   Opened before (Err e) after = NotOpened e × (after ≡ before)
 
+-- where a sheet is not opened for its text, the fault is the text's first refusal
+abbrev pub TextTold : List ℕ → Refusal → Type 0
+TextTold text (Text f) = FirstRefused text f
+TextTold text (Table f) = Unit {0}
+TextTold text (Figures f) = Unit {0}
+TextTold text NoTable = Unit {0}
+TextTold text Sweeps = Unit {0}
+TextTold text (Write f) = Unit {0}
+
 -- writing: 12 without a table; else what the writing of a page answers and leaves
 abbrev pub Written : Bool → List ℕ → Option Page → List ℕ → Result ℕ Refusal → List ℕ → Type 0
 Written figured old None before r after = (r ≡ Err NoTable) × (after ≡ before)
@@ -75,6 +84,17 @@ Written figured old (Some p) before (Err (Table f)) after = ⊥
 Written figured old (Some p) before (Err (Figures f)) after = ⊥
 Written figured old (Some p) before (Err NoTable) after = ⊥
 Written figured old (Some p) before (Err Sweeps) after = ⊥
+
+-- where writing is refused for the old sheet, the line is that of its first refusal, or 0 where it is unlike the table
+abbrev pub OldLine : List ℕ → Option Page → Result ℕ Refusal → Type 0
+OldLine old None r = Unit {0}
+OldLine old (Some p) (Ok n) = Unit {0}
+OldLine old (Some p) (Err (Write f)) = OldTold old p.sound.table (Err f)
+OldLine old (Some p) (Err (Text f)) = Unit {0}
+OldLine old (Some p) (Err (Table f)) = Unit {0}
+OldLine old (Some p) (Err (Figures f)) = Unit {0}
+OldLine old (Some p) (Err NoTable) = Unit {0}
+OldLine old (Some p) (Err Sweeps) = Unit {0}
 
 -- sweeping with n: 12 without a table; then 15 where n is not 1 to 1,000; else the defined sweeps of the page
 module _ (le : Cost → Cost → Bool) (cheap dear : Cost → ℕ → Cost) (n : ℕ) where

@@ -1,5 +1,5 @@
-ghost use Rattle.std.specs.Prelude.{◌≡◌, ◌≤◌, length, None, Ok, Err};
-ghost use Rattle.book.specs.Calls.{Opens, Opened, Written, SweptBook};
+ghost use Rattle.std.specs.Prelude.{◌≡◌, ◌≤◌, length, None, Ok, Err, IfErr};
+ghost use Rattle.book.specs.Calls.{Opens, Opened, TextTold, Written, OldLine, SweptBook};
 
 use crate::book::Book;
 use crate::limits::MAX_SWEEPS;
@@ -20,7 +20,8 @@ pub struct SweepCount {
 
 /// The page that a sheet opens to: its table with its figures, or with start figures where it has none.
 fn read_page<R: Ranking>(ranking: &R, text: &[u8]) -> Result<Page, Refusal>
-    ensures { Opens (R.ranks ranking.now) text.now result }
+    ensures opens { Opens (R.ranks ranking.now) text.now result }
+    ensures text { IfErr result (TextTold text.now) }
 {
     let sheet = match read(text) {
         Ok(sheet) => sheet,
@@ -55,6 +56,7 @@ impl<R: Ranking> Book<R> {
     pub fn open(&mut self, text: &[u8]) -> Result<(), Refusal>
         ensures ranking { self.new.ranking ≡ self.old.ranking }
         ensures page { Opened (R.Ranking.ranks self.old.ranking) text.now self.old.page result self.new.page }
+        ensures text { IfErr result (TextTold text.now) }
     {
         match read_page(&self.ranking, text) {
             Ok(page) => {
@@ -68,7 +70,8 @@ impl<R: Ranking> Book<R> {
     /// Writes the book's table as a sheet, with its figures or without, with the labels of an old sheet, and returns
     /// the sheet's length. What `out` holds beyond that stays; a refusal leaves all of `out`.
     pub fn write(&self, figured: bool, old: &[u8], out: &mut [u8]) -> Result<usize, Refusal>
-        ensures { Written figured old.now self.now.page out.old result out.new }
+        ensures written { Written figured old.now self.now.page out.old result out.new }
+        ensures old { OldLine old.now self.now.page result }
     {
         let Some(page) = self.page else {
             return Err(Refusal::NoTable);

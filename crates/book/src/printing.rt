@@ -1,6 +1,6 @@
 ghost use Rattle.std.specs.Prelude.{◌≡◌, ◌≤◌, length};
 ghost use Rattle.text.specs.Writing.{Writes};
-ghost use Rattle.book.specs.Printing.{refusal_text, Recounted, Printed};
+ghost use Rattle.book.specs.Printing.{refusal_text, Recounted, RecountTold, Printed, PrintedOnly};
 
 use crate::book::Book;
 use crate::limits::RECOUNT_SWEEPS;
@@ -26,8 +26,8 @@ fn write_refusal(out: &mut [u8], refusal: &Refusal) -> Option<usize>
 
 /// Opens the sheet by money only, sweeps, and writes it with figures.
 fn recounted(sheet: &[u8], out: &mut [u8]) -> Result<usize, Refusal>
-    requires { length out.old ≡ 32768 }
-    ensures { Recounted sheet.now out.old result out.new }
+    ensures recounted { Recounted sheet.now out.old result out.new }
+    ensures told { length out.old ≡ 32768 → RecountTold sheet.now result }
 {
     let mut book = Book::new(Money);
     book.open(sheet)?;
@@ -39,6 +39,7 @@ fn recounted(sheet: &[u8], out: &mut [u8]) -> Result<usize, Refusal>
 /// many bytes that is.
 pub fn recount(sheet: &[u8], out: &mut [u8; MAX_SHEET]) -> usize
     ensures printed { Printed sheet.now out.old result out.new }
+    ensures only { PrintedOnly sheet.now out.old result out.new }
     ensures within { result ≤ length out.new }
 {
     match recounted(sheet, out) {
