@@ -3,7 +3,7 @@
 use crate::edit::Edit;
 
 /// Lines that have not the form due there.
-pub(crate) static FORM: [Edit; 27] = [
+pub(crate) const FORM: [Edit; 27] = [
     // The last line.
     Edit {
         old: b"end\n",
@@ -148,7 +148,7 @@ pub(crate) static FORM: [Edit; 27] = [
 ];
 
 /// Numbers outside of their ranges or out of order.
-pub(crate) static RANGE: [Edit; 33] = [
+pub(crate) const RANGE: [Edit; 33] = [
     // The first line: each of its numbers beyond an end of its range.
     Edit {
         old: b"sheet 2 3 4 4 1 2 1 0",
@@ -321,7 +321,7 @@ pub(crate) static RANGE: [Edit; 33] = [
 ];
 
 /// Tables that are not sound.
-pub(crate) static TABLE: [Edit; 11] = [
+pub(crate) const TABLE: [Edit; 11] = [
     // Rows that two indices point to, or none; the lowest such row counts.
     Edit {
         old: b"r 1 0 0 0 1",
@@ -384,7 +384,7 @@ pub(crate) static TABLE: [Edit; 11] = [
 ];
 
 /// Changes to the shop with its exact costs as figures.
-pub(crate) static FIGURES: [Edit; 15] = [
+pub(crate) const FIGURES: [Edit; 15] = [
     // A plan row outside of its grade's chain.
     Edit {
         old: b"f 1 1 6",
@@ -466,7 +466,7 @@ pub(crate) static FIGURES: [Edit; 15] = [
 ];
 
 /// Changes to the ends of ranges, which are no faults, with the beginning of what a recount prints.
-pub(crate) static WITHIN: [Edit; 5] = [
+pub(crate) const WITHIN: [Edit; 5] = [
     Edit {
         old: b"sheet 2 3 4 4 1 2 1 0",
         new: b"sheet 2 3 4 4 1 1000 1 0",
@@ -495,7 +495,7 @@ pub(crate) static WITHIN: [Edit; 5] = [
 ];
 
 /// A grade with three rows of which two point at each other: each row is pointed at once, but rows 2 and 3 hang loose.
-pub(crate) static LOOSE_ROWS: &[u8] = b"\
+pub(crate) const LOOSE_ROWS: &[u8] = b"\
 sheet 1 3 3 1 1 2 1 0\n\
 g 1 1 only\n\
 r 1 0 0 0 1 first\n\
@@ -508,7 +508,7 @@ end\n\
 ";
 
 /// A row with three arcs of which two point at each other.
-pub(crate) static LOOSE_ARCS: &[u8] = b"\
+pub(crate) const LOOSE_ARCS: &[u8] = b"\
 sheet 1 1 3 1 1 2 1 0\n\
 g 1 1 only\n\
 r 1 0 0 0 1 first\n\

@@ -3,7 +3,7 @@
 use table::FiledLine;
 
 /// The shop of two grades, without figures.
-pub(crate) static TWO_GRADES: &[u8] = b"\
+pub(crate) const TWO_GRADES: &[u8] = b"\
 sheet 2 3 4 4 1 2 1 0\n\
 g 1 1 tidy\n\
 g 2 2 drift\n\
@@ -18,7 +18,7 @@ end\n\
 ";
 
 /// The shop of two grades as a recount leaves it.
-pub(crate) static TWO_GRADES_RECOUNTED: &[u8] = b"\
+pub(crate) const TWO_GRADES_RECOUNTED: &[u8] = b"\
 sheet 2 3 4 4 1 2 1 2\n\
 g 1 1 tidy\n\
 g 2 2 drift\n\
@@ -35,7 +35,7 @@ end\n\
 ";
 
 /// The shop of two grades with its exact costs as floors and as ceilings.
-pub(crate) static TWO_GRADES_EXACT: &[u8] = b"\
+pub(crate) const TWO_GRADES_EXACT: &[u8] = b"\
 sheet 2 3 4 4 1 2 1 2\n\
 g 1 1 tidy\n\
 g 2 2 drift\n\
@@ -52,7 +52,7 @@ end\n\
 ";
 
 /// A machine in four conditions, from a textbook on Markov decision processes, with discount 9/10 and fineness 10.
-pub(crate) static MACHINE: &[u8] = b"\
+pub(crate) const MACHINE: &[u8] = b"\
 sheet 4 7 12 16 9 10 10 0\n\
 g 1 1 new\n\
 g 2 2 minor\n\
@@ -81,7 +81,7 @@ end\n\
 ";
 
 /// The machine as a recount leaves it.
-pub(crate) static MACHINE_RECOUNTED: &[u8] = b"\
+pub(crate) const MACHINE_RECOUNTED: &[u8] = b"\
 sheet 4 7 12 16 9 10 10 4\n\
 g 1 1 new\n\
 g 2 2 minor\n\
@@ -115,7 +115,7 @@ end\n\
 
 /// What each condition of the machine costs under the best plan, in whole coins, and the row that this plan names: leave,
 /// leave, overhaul, replace.
-pub(crate) static MACHINE_KNOWN: [(i32, usize); 4] = [
+pub(crate) const MACHINE_KNOWN: [(i32, usize); 4] = [
     (14_949, 1),
     (16_262, 2),
     (18_636, 5),
@@ -123,7 +123,7 @@ pub(crate) static MACHINE_KNOWN: [(i32, usize); 4] = [
 ];
 
 /// The last lines of the shop of two grades as it is opened, after one sweep and after two.
-pub(crate) static TWO_GRADES_SWEPT: [&[u8]; 3] = [
+pub(crate) const TWO_GRADES_SWEPT: [&[u8]; 3] = [
     b"\nf 1 1 0 0 54 0\nf 2 2 0 0 54 0\nend\n",
     b"\nf 1 1 0 0 27 0\nf 2 2 20 0 47 0\nend\n",
     b"\nf 1 1 2 0 16 0\nf 2 3 27 0 41 0\nend\n",

@@ -84,7 +84,7 @@ fn ends_of_ranges_taken(rt: HostRuntime) -> Result<(), Fail> {
 fn swept_one_by_one(rt: HostRuntime) -> Result<(), Fail> {
     let mut book = Book::new(Money);
     assert!(rt; book.open(TWO_GRADES).is_ok());
-    for &lines in &TWO_GRADES_SWEPT {
+    for lines in TWO_GRADES_SWEPT {
         assert!(rt; ends(&book, lines) && book.sweep(1).is_ok());
     }
     match book.sweep(RECOUNT_SWEEPS) {
