@@ -5,6 +5,8 @@ use Rattle.table.specs.declared.figures.Figures.{Figures}
 use Rattle.table.specs.declared.rows.Arc.{Arc}
 use Rattle.table.specs.declared.rows.Row.{Row}
 use Rattle.table.specs.Ranges.{Within, FirstsIn, RowIn, ArcIn, FigureIn, FiguresIn, row0, arc0}
+use Rattle.lines.specs.declared.fault.TextFault.{TextFault}
+use Rattle.lines.specs.declared.fault.TextFault.TheVariants as fault
 use Rattle.sheet.specs.declared.labels.Span.{Span}
 use Rattle.lines.specs.declared.records.ArcLine.{ArcLine}
 use Rattle.lines.specs.declared.records.FigureLine.{FigureLine}
@@ -18,6 +20,20 @@ use Rattle.sheet.specs.Spans.{SpanIn, SpansIn}
 abbrev pub CountOf : ℤ → ℕ → ℕ → Option ℕ → Type 0
 CountOf z low high (Some n) = (z ≡ pos n) × Within low high n
 CountOf z low high None = (n : ℕ) → z ≡ pos n → Within low high n → ⊥
+
+-- a fault of form or range, at a line from low to high
+abbrev pub FaultIn : ℕ → ℕ → TextFault → Type 0
+FaultIn low high fault.TooLong = ⊥
+FaultIn low high (fault.Form l) = Within low high l
+FaultIn low high (fault.Range l) = Within low high l
+FaultIn low high (fault.NoLine p) = ⊥
+
+-- a fault of form, at a line from low to high
+abbrev pub FormIn : ℕ → ℕ → TextFault → Type 0
+FormIn low high fault.TooLong = ⊥
+FormIn low high (fault.Form l) = Within low high l
+FormIn low high (fault.Range l) = ⊥
+FormIn low high (fault.NoLine p) = ⊥
 
 -- each grade's plan row is one of the rows, where there are figures
 abbrev pub PlansIn : ℕ → ℕ → Option Figures → Type 0

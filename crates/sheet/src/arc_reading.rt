@@ -1,8 +1,8 @@
 ghost use Rattle.std.specs.Prelude.{ℕ, ◌+◌, ◌<◌, ◌≤◌, length, drop, Some, None, Ok, Err};
 ghost use Rattle.lines.specs.Lines.{arc_of};
-ghost use Rattle.sheet.specs.Due.{arc, Ranged};
+ghost use Rattle.sheet.specs.Due.{arc as arc_due, Ranged};
 ghost use Rattle.sheet.specs.Halts.{counts_of, LineFault, Halted};
-ghost use Rattle.sheet.specs.Read.{ArcSaid, ArcRead, ArcsRead};
+ghost use Rattle.sheet.specs.Read.{FaultIn, ArcSaid, ArcRead, ArcsRead};
 
 use crate::header::Header;
 use crate::kind_reading::arc_at;
@@ -12,7 +12,8 @@ use table::{Arc, MAX_ARCS};
 
 /// What the line says of its arc, where all of that is in range.
 fn arc_of(line: &ArcLine, header: &Header) -> Option<Arc>
-    ensures { elim result [ Some a ↦ ArcSaid header.now.grades header.now.arcs header.now.total line.now a | None ↦ (i : ℕ) → Ranged (counts_of header.now) (arc i) (arc_of line.now) → ⊥ ] }
+    ensures said { elim result [ Some arc ↦ ArcSaid header.now.grades header.now.arcs header.now.total line.now arc | None ↦ Unit {0} ] }
+    ensures out { elim result [ Some _ ↦ Unit {0} | None ↦ (i : ℕ) → Ranged (counts_of header.now) (arc_due i) (arc_of line.now) → ⊥ ] }
 {
     let next = count(line.next, 0, header.arcs)?;
     let destination = count(line.destination, 1, header.grades)?;
@@ -33,7 +34,8 @@ fn arc_line(
     header: &Header,
 ) -> Result<(Arc, usize), TextFault>
     requires { i < 512 }
-    ensures { elim result [ Ok p ↦ ArcRead sheet.now at i header.now.grades header.now.arcs header.now.total p.0 p.1 | Err e ↦ LineFault (counts_of header.now) (arc i) line (drop at sheet.now) e ] }
+    ensures read { elim result [ Ok p ↦ ArcRead sheet.now at i header.now.grades header.now.arcs header.now.total p.0 p.1 | Err e ↦ FaultIn line line e ] }
+    ensures fault { elim result [ Ok _ ↦ Unit {0} | Err e ↦ LineFault (counts_of header.now) (arc_due i) line (drop at sheet.now) e ] }
 {
     let Some((text, next)) = arc_at(sheet, at) else {
         return Err(TextFault::Form { line });
@@ -54,7 +56,8 @@ pub(crate) fn read_arcs(
     header: &Header,
 ) -> Result<([Arc; MAX_ARCS], usize), TextFault>
     requires { at ≤ length sheet.now }
-    ensures { elim result [ Ok p ↦ ArcsRead sheet.now at header.now.arcs header.now.grades header.now.arcs header.now.total p.0 p.1 | Err e ↦ Halted (counts_of header.now) arc header.now.arcs (2 + header.now.grades + header.now.rows) (drop at sheet.now) e ] }
+    ensures read { elim result [ Ok p ↦ ArcsRead sheet.now at header.now.arcs header.now.grades header.now.arcs header.now.total p.0 p.1 | Err e ↦ FaultIn 2 641 e ] }
+    ensures fault { elim result [ Ok _ ↦ Unit {0} | Err e ↦ Halted (counts_of header.now) arc_due header.now.arcs (2 + header.now.grades + header.now.rows) (drop at sheet.now) e ] }
 {
     let mut arc = [Arc {
         next: 0,

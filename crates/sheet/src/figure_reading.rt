@@ -2,7 +2,7 @@ ghost use Rattle.std.specs.Prelude.{ℕ, ◌+◌, ◌<◌, ◌≤◌, length, dr
 ghost use Rattle.lines.specs.Lines.{figure_of};
 ghost use Rattle.sheet.specs.Due.{figure, Ranged};
 ghost use Rattle.sheet.specs.Halts.{counts_of, LineFault, Halted};
-ghost use Rattle.sheet.specs.Read.{FigureSaid, FigureRead, FigurePartRead};
+ghost use Rattle.sheet.specs.Read.{FaultIn, FigureSaid, FigureRead, FigurePartRead};
 
 use crate::header::Header;
 use crate::kind_reading::figure_at;
@@ -20,7 +20,8 @@ struct Figure {
 
 /// What the line says of its grade, where all of that is in range.
 fn figure_of(line: &FigureLine, header: &Header) -> Option<Figure>
-    ensures { elim result [ Some f ↦ FigureSaid header.now.rows line.now f.row f.floor f.ceiling | None ↦ (i : ℕ) → Ranged (counts_of header.now) (figure i) (figure_of line.now) → ⊥ ] }
+    ensures said { elim result [ Some f ↦ FigureSaid header.now.rows line.now f.row f.floor f.ceiling | None ↦ Unit {0} ] }
+    ensures out { elim result [ Some _ ↦ Unit {0} | None ↦ (i : ℕ) → Ranged (counts_of header.now) (figure i) (figure_of line.now) → ⊥ ] }
 {
     let row = count(line.row, 1, header.rows)?;
     if !near(line.floor_first, MAX_FIGURE_PART) || !near(line.floor_second, MAX_FIGURE_PART) {
@@ -45,7 +46,8 @@ fn figure_line(
     header: &Header,
 ) -> Result<(Figure, usize), TextFault>
     requires { i < 32 }
-    ensures { elim result [ Ok p ↦ FigureRead sheet.now at i header.now.rows p.0.row p.0.floor p.0.ceiling p.1 | Err e ↦ LineFault (counts_of header.now) (figure i) line (drop at sheet.now) e ] }
+    ensures read { elim result [ Ok p ↦ FigureRead sheet.now at i header.now.rows p.0.row p.0.floor p.0.ceiling p.1 | Err e ↦ FaultIn line line e ] }
+    ensures fault { elim result [ Ok _ ↦ Unit {0} | Err e ↦ LineFault (counts_of header.now) (figure i) line (drop at sheet.now) e ] }
 {
     let Some((text, next)) = figure_at(sheet, at) else {
         return Err(TextFault::Form { line });
@@ -66,7 +68,8 @@ pub(crate) fn read_figures(
     header: &Header,
 ) -> Result<(Option<Figures>, usize), TextFault>
     requires { at ≤ length sheet.now }
-    ensures { elim result [ Ok p ↦ FigurePartRead sheet.now at header.now.figured header.now.grades header.now.rows p.0 p.1 | Err e ↦ Halted (counts_of header.now) figure (if header.now.figured then header.now.grades else 0) (2 + header.now.grades + header.now.rows + header.now.arcs) (drop at sheet.now) e ] }
+    ensures read { elim result [ Ok p ↦ FigurePartRead sheet.now at header.now.figured header.now.grades header.now.rows p.0 p.1 | Err e ↦ FaultIn 2 673 e ] }
+    ensures fault { elim result [ Ok _ ↦ Unit {0} | Err e ↦ Halted (counts_of header.now) figure (if header.now.figured then header.now.grades else 0) (2 + header.now.grades + header.now.rows + header.now.arcs) (drop at sheet.now) e ] }
 {
     if !header.figured {
         return Ok((None, at));

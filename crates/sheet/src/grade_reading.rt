@@ -1,7 +1,7 @@
 ghost use Rattle.std.specs.Prelude.{◌+◌, ◌<◌, ◌≤◌, length, drop, Ok, Err};
 ghost use Rattle.sheet.specs.Due.{grade};
 ghost use Rattle.sheet.specs.Halts.{counts_of, LineFault, Halted};
-ghost use Rattle.sheet.specs.Read.{GradeRead, GradesRead};
+ghost use Rattle.sheet.specs.Read.{FaultIn, GradeRead, GradesRead};
 
 use crate::header::Header;
 use crate::kind_reading::grade_at;
@@ -19,7 +19,8 @@ fn grade_line(
     header: &Header,
 ) -> Result<(usize, Span, usize), TextFault>
     requires { i < 32 }
-    ensures { elim result [ Ok p ↦ GradeRead sheet.now at i header.now.rows p.0 p.1 p.2 | Err e ↦ LineFault (counts_of header.now) (grade i) line (drop at sheet.now) e ] }
+    ensures read { elim result [ Ok p ↦ GradeRead sheet.now at i header.now.rows p.0 p.1 p.2 | Err e ↦ FaultIn line line e ] }
+    ensures fault { elim result [ Ok _ ↦ Unit {0} | Err e ↦ LineFault (counts_of header.now) (grade i) line (drop at sheet.now) e ] }
 {
     let Some((grade, next)) = grade_at(sheet, at) else {
         return Err(TextFault::Form { line });
@@ -48,7 +49,8 @@ pub(crate) fn read_grades(
     header: &Header,
 ) -> Result<([usize; MAX_GRADES], [Span; MAX_GRADES], usize), TextFault>
     requires { at ≤ length sheet.now }
-    ensures { elim result [ Ok p ↦ GradesRead sheet.now at header.now.grades header.now.rows p.0 p.1 p.2 | Err e ↦ Halted (counts_of header.now) grade header.now.grades 2 (drop at sheet.now) e ] }
+    ensures read { elim result [ Ok p ↦ GradesRead sheet.now at header.now.grades header.now.rows p.0 p.1 p.2 | Err e ↦ FaultIn 2 (1 + header.now.grades) e ] }
+    ensures fault { elim result [ Ok _ ↦ Unit {0} | Err e ↦ Halted (counts_of header.now) grade header.now.grades 2 (drop at sheet.now) e ] }
 {
     let mut first_row = [0; MAX_GRADES];
     let mut label = [Span { start: 0, end: 0 }; MAX_GRADES];

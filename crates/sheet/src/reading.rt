@@ -2,6 +2,7 @@ ghost use Rattle.std.specs.Prelude.{◌≡◌, ◌+◌, ◌<◌, ◌≤◌, leng
 ghost use Rattle.lines.specs.Lines.{line_text, end};
 ghost use Rattle.sheet.specs.Halts.{counts_of, EndFault};
 ghost use Rattle.sheet.specs.Laws.{Answered, Once, Exactly};
+ghost use Rattle.sheet.specs.Read.{FormIn};
 ghost use Rattle.sheet.specs.Whole.{SheetIn, Refused};
 
 use crate::arc_reading::read_arcs;
@@ -22,7 +23,8 @@ pub const MAX_SHEET: usize = 32_768;
 /// The line `end`, the sheet's line `line`, with nothing after it.
 fn read_end(sheet: &[u8], at: usize, line: usize) -> Result<(), TextFault>
     requires { line ≤ 674 }
-    ensures { elim result [ Ok _ ↦ drop at sheet.now ≡ line_text end | Err e ↦ EndFault line (drop at sheet.now) e ] }
+    ensures read { elim result [ Ok _ ↦ drop at sheet.now ≡ line_text end | Err e ↦ FormIn line (line + 1) e ] }
+    ensures fault { elim result [ Ok _ ↦ Unit {0} | Err e ↦ EndFault line (drop at sheet.now) e ] }
 {
     let Some(next) = end_at(sheet, at) else {
         return Err(TextFault::Form { line });

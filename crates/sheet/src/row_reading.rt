@@ -1,8 +1,8 @@
 ghost use Rattle.std.specs.Prelude.{ℕ, ◌+◌, ◌<◌, ◌≤◌, length, drop, Some, None, Ok, Err};
 ghost use Rattle.lines.specs.Lines.{row_of};
-ghost use Rattle.sheet.specs.Due.{row, Ranged};
+ghost use Rattle.sheet.specs.Due.{row as row_due, Ranged};
 ghost use Rattle.sheet.specs.Halts.{counts_of, LineFault, Halted};
-ghost use Rattle.sheet.specs.Read.{RowSaid, RowRead, RowsRead};
+ghost use Rattle.sheet.specs.Read.{FaultIn, RowSaid, RowRead, RowsRead};
 
 use crate::header::Header;
 use crate::kind_reading::row_at;
@@ -13,7 +13,8 @@ use table::{MAX_COST_PART, MAX_ROWS, Row};
 
 /// What the line says of its row, where all of that is in range.
 fn row_of(line: &RowLine<'_>, header: &Header) -> Option<Row>
-    ensures { elim result [ Some r ↦ RowSaid header.now.rows header.now.arcs line.now r | None ↦ (i : ℕ) → Ranged (counts_of header.now) (row i) (row_of line.now) → ⊥ ] }
+    ensures said { elim result [ Some row ↦ RowSaid header.now.rows header.now.arcs line.now row | None ↦ Unit {0} ] }
+    ensures out { elim result [ Some _ ↦ Unit {0} | None ↦ (i : ℕ) → Ranged (counts_of header.now) (row_due i) (row_of line.now) → ⊥ ] }
 {
     let next = count(line.next, 0, header.rows)?;
     if !near(line.first_part, MAX_COST_PART) || !near(line.second_part, MAX_COST_PART) {
@@ -36,7 +37,8 @@ fn row_line(
     header: &Header,
 ) -> Result<(Row, Span, usize), TextFault>
     requires { i < 96 }
-    ensures { elim result [ Ok p ↦ RowRead sheet.now at i header.now.rows header.now.arcs p.0 p.1 p.2 | Err e ↦ LineFault (counts_of header.now) (row i) line (drop at sheet.now) e ] }
+    ensures read { elim result [ Ok p ↦ RowRead sheet.now at i header.now.rows header.now.arcs p.0 p.1 p.2 | Err e ↦ FaultIn line line e ] }
+    ensures fault { elim result [ Ok _ ↦ Unit {0} | Err e ↦ LineFault (counts_of header.now) (row_due i) line (drop at sheet.now) e ] }
 {
     let Some((text, next)) = row_at(sheet, at) else {
         return Err(TextFault::Form { line });
@@ -65,7 +67,8 @@ pub(crate) fn read_rows(
     header: &Header,
 ) -> Result<([Row; MAX_ROWS], [Span; MAX_ROWS], usize), TextFault>
     requires { at ≤ length sheet.now }
-    ensures { elim result [ Ok p ↦ RowsRead sheet.now at header.now.rows header.now.rows header.now.arcs p.0 p.1 p.2 | Err e ↦ Halted (counts_of header.now) row header.now.rows (2 + header.now.grades) (drop at sheet.now) e ] }
+    ensures read { elim result [ Ok p ↦ RowsRead sheet.now at header.now.rows header.now.rows header.now.arcs p.0 p.1 p.2 | Err e ↦ FaultIn 2 129 e ] }
+    ensures fault { elim result [ Ok _ ↦ Unit {0} | Err e ↦ Halted (counts_of header.now) row_due header.now.rows (2 + header.now.grades) (drop at sheet.now) e ] }
 {
     let mut row = [Row {
         next: 0,

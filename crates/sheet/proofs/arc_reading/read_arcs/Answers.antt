@@ -15,11 +15,11 @@ loop-i-preserved c =
     let read = c.in_ok-read in
     let h = c.args.header.now in (
       simp length-set inv.0,
-      arcs_more c.args.sheet.now c.args.at c.loop-i.at c.loop-i.i h.grades h.arcs h.total c.loop-i.arc read.read read.next (omega arith) inv.1 read.ensures,
+      arcs_more c.args.sheet.now c.args.at c.loop-i.at c.loop-i.i h.grades h.arcs h.total c.loop-i.arc read.read read.next (omega arith) inv.1 read.ensures.read,
     )
 
-pub returns-in_err-read : goal.returns-in_err-read
-returns-in_err-read c =
+pub returns-in_err-read-clause-fault : goal.returns-in_err-read-clause-fault
+returns-in_err-read-clause-fault c =
     let sheet = c.args.sheet.now in
     let h = c.args.header.now in
     let i = c.loop-i.i in
@@ -29,5 +29,5 @@ returns-in_err-read c =
       below = omega arith;
       rest = drop c.loop-i.at sheet;
       through = arcs_through (counts_of h) (counted h) sheet c.args.at i c.loop-i.at c.loop-i.arc (omega arith) c.loop-i.invariant.1;
-      faulty = c.in_err-read.ensures;
+      faulty = c.in_err-read.ensures.fault;
     })

@@ -15,11 +15,11 @@ loop-i-preserved c =
       simp length-set inv.0,
       simp length-set inv.1,
       simp length-set inv.2,
-      figures_more c.args.sheet.now c.args.at c.loop-i.at c.loop-i.i c.args.header.now.rows c.loop-i.row c.loop-i.floor c.loop-i.ceiling f.row f.floor f.ceiling read.next (omega arith) (omega arith) (omega arith) inv.3 read.ensures,
+      figures_more c.args.sheet.now c.args.at c.loop-i.at c.loop-i.i c.args.header.now.rows c.loop-i.row c.loop-i.floor c.loop-i.ceiling f.row f.floor f.ceiling read.next (omega arith) (omega arith) (omega arith) inv.3 read.ensures.read,
     )
 
-pub returns-in_err-figure : goal.returns-in_err-figure
-returns-in_err-figure c =
+pub returns-in_err-figure-clause-fault : goal.returns-in_err-figure-clause-fault
+returns-in_err-figure-clause-fault c =
     let sheet = c.args.sheet.now in
     let h = c.args.header.now in
     let i = c.loop-i.i in
@@ -30,5 +30,5 @@ returns-in_err-figure c =
       below = subst (λ b. i < cond b h.grades 0) (sym yes) (omega arith);
       rest = drop c.loop-i.at sheet;
       through = figures_through (counts_of h) (counted h) sheet c.args.at i c.loop-i.at c.loop-i.row c.loop-i.floor c.loop-i.ceiling (omega arith) c.loop-i.invariant.3;
-      faulty = c.in_err-figure.ensures;
+      faulty = c.in_err-figure.ensures.fault;
     })

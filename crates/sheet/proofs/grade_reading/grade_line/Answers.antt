@@ -7,8 +7,8 @@ use Rattle.sheet.proofs.GradeSteps.{grade_told}
 use Rattle.sheet.proofs.Halting.{wrong}
 use Rattle.sheet.proofs.grade_reading.grade_line.Goals as goal
 
-pub returns : goal.returns
-returns c =
+pub returns-clause-read : goal.returns-clause-read
+returns-clause-read c =
     let sheet = c.args.sheet.now in
     let g = c.in-Some.grade in
     let next = c.in-Some.next in
@@ -21,8 +21,8 @@ returns c =
     (told.reads.was (grade_of g) (drop next sheet) refl)
     number row counted.1 told.place.0 told.place.1 told.place.2
 
-pub returns-then-grade-i : goal.returns-then-grade-i
-returns-then-grade-i c =
+pub returns-then-grade-i-clause-fault : goal.returns-then-grade-i-clause-fault
+returns-then-grade-i-clause-fault c =
     let sheet = c.args.sheet.now in
     let g = c.in-Some.grade in
     let next = c.in-Some.next in
@@ -30,8 +30,8 @@ returns-then-grade-i c =
     (c.in-Some.ensures.reads.was (grade_of g) (drop next sheet) refl)
     (λ r. omega (arith, ints, r.0))
 
-pub returns-in_default-count : goal.returns-in_default-count
-returns-in_default-count c =
+pub returns-in_default-count-clause-fault : goal.returns-in_default-count-clause-fault
+returns-in_default-count-clause-fault c =
     let sheet = c.args.sheet.now in
     let g = c.in-Some.grade in
     let next = c.in-Some.next in

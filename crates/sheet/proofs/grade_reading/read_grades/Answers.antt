@@ -13,11 +13,11 @@ loop-i-preserved c =
     let read = c.in_ok-first in (
       simp length-set inv.0,
       simp length-set inv.1,
-      grades_more c.args.sheet.now c.args.at c.loop-i.at c.loop-i.i c.args.header.now.rows c.loop-i.first_row c.loop-i.label read.first read.span read.next (omega arith) (omega arith) inv.2 read.ensures,
+      grades_more c.args.sheet.now c.args.at c.loop-i.at c.loop-i.i c.args.header.now.rows c.loop-i.first_row c.loop-i.label read.first read.span read.next (omega arith) (omega arith) inv.2 read.ensures.read,
     )
 
-pub returns-in_err-first : goal.returns-in_err-first
-returns-in_err-first c =
+pub returns-in_err-first-clause-fault : goal.returns-in_err-first-clause-fault
+returns-in_err-first-clause-fault c =
     let sheet = c.args.sheet.now in
     let h = c.args.header.now in
     let i = c.loop-i.i in
@@ -27,5 +27,5 @@ returns-in_err-first c =
       below = omega arith;
       rest = drop c.loop-i.at sheet;
       through = grades_through (counts_of h) (counted h) sheet c.args.at i c.loop-i.at c.loop-i.first_row c.loop-i.label (omega arith) c.loop-i.invariant.2;
-      faulty = c.in_err-first.ensures;
+      faulty = c.in_err-first.ensures.fault;
     })

@@ -3,13 +3,13 @@ use Rattle.std.proofs.lemmas.List.{drop_all, length-drop}
 use Rattle.lines.specs.Lines.{line_text, end}
 use Rattle.sheet.proofs.reading.read_end.Goals as goal
 
-pub returns : goal.returns
-returns c =
+pub returns-clause-read : goal.returns-clause-read
+returns-clause-read c =
     let told = c.in-Some.ensures in
     told.1 ∙ ap (λ l. line_text end ++ l) (drop_all c.in-Some.next c.args.sheet.now (omega arith))
 
-pub returns-then-next-sheet : goal.returns-then-next-sheet
-returns-then-next-sheet c =
+pub returns-then-next-sheet-clause-fault : goal.returns-then-next-sheet-clause-fault
+returns-then-next-sheet-clause-fault c =
     let told = c.in-Some.ensures in
     let sheet = c.args.sheet.now in
     let next = c.in-Some.next in

@@ -14,11 +14,11 @@ loop-i-preserved c =
     let h = c.args.header.now in (
       simp length-set inv.0,
       simp length-set inv.1,
-      rows_more c.args.sheet.now c.args.at c.loop-i.at c.loop-i.i h.rows h.arcs c.loop-i.row c.loop-i.label read.read read.span read.next (omega arith) (omega arith) inv.2 read.ensures,
+      rows_more c.args.sheet.now c.args.at c.loop-i.at c.loop-i.i h.rows h.arcs c.loop-i.row c.loop-i.label read.read read.span read.next (omega arith) (omega arith) inv.2 read.ensures.read,
     )
 
-pub returns-in_err-read : goal.returns-in_err-read
-returns-in_err-read c =
+pub returns-in_err-read-clause-fault : goal.returns-in_err-read-clause-fault
+returns-in_err-read-clause-fault c =
     let sheet = c.args.sheet.now in
     let h = c.args.header.now in
     let i = c.loop-i.i in
@@ -28,5 +28,5 @@ returns-in_err-read c =
       below = omega arith;
       rest = drop c.loop-i.at sheet;
       through = rows_through (counts_of h) (counted h) sheet c.args.at i c.loop-i.at c.loop-i.row c.loop-i.label (omega arith) c.loop-i.invariant.2;
-      faulty = c.in_err-read.ensures;
+      faulty = c.in_err-read.ensures.fault;
     })
