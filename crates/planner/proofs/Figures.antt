@@ -11,9 +11,9 @@ use Rattle.table.specs.Chains.{walk, row_at, next_arc, arcs_of, weights}
 use Rattle.table.specs.Sound.{Sound}
 use Rattle.table.specs.Lookahead.{mean, scaling, X}
 use Rattle.table.proofs.Soundness.{arcs_end}
-use Rattle.table.specs.Kept.{PlanRule, FloorRule, PlanCeilingRule}
+use Rattle.table.specs.Kept.{FloorRule}
 use Rattle.table.proofs.Keeping.{row_in}
-use Rattle.planner.specs.Policies.{Policy, E, last, always, dearest_figure, FloorsBound, CeilingsBound}
+use Rattle.planner.specs.Policies.{Policy, E, last, always, dearest_figure, CeilingRule, FloorsBound, CeilingsBound}
 use Rattle.planner.proofs.Averages.{Leads, mean_times, mean_plus, le_mean}
 use Rattle.planner.proofs.Dearest.{dearest_of}
 
@@ -93,17 +93,17 @@ module _ (le : Cost → Cost → Bool) (o : Ordered le) (l : Linear le) (t : Tab
       subst (λ y. le (times (m ^ suc n) (w g)) y ≡ true) out
       (chain3 (times (m ^ suc n) (w g)) (plus x (times a low)) (plus x (times a high)) (subst (λ y. le (times (m ^ suc n) (w g)) y ≡ true) (grown t k n w) stay) step)
 
-  ceilings : (plan : ℕ → ℕ) (w : ℕ → Cost) → PlanRule t plan → PlanCeilingRule le t plan w → (c : Cost) → ((g : ℕ) → Within 1 t.grades g → le (negated (w g)) c ≡ true) → (n : ℕ) (past : List ℕ) (g : ℕ) → Within 1 t.grades g →
+  ceilings : (plan : ℕ → ℕ) (w : ℕ → Cost) → CeilingRule le t plan w → (c : Cost) → ((g : ℕ) → Within 1 t.grades g → le (negated (w g)) c ≡ true) → (n : ℕ) (past : List ℕ) (g : ℕ) → Within 1 t.grades g →
       le (E t (always plan) n (past ++ g ∷ [])) (plus (times (scaling t ^ n) (w g)) (times ((t.numerator * t.total) ^ n) c)) ≡ true
-  ceilings plan w p f c top none past g h =
+  ceilings plan w f c top none past g h =
       let right : plus (times (scaling t ^ none) (w g)) (times ((t.numerator * t.total) ^ none) c) ≡ plus (w g) c =
       (λ i. plus (pow_none_times (scaling t) (w g) i) (pow_none_times (t.numerator * t.total) c i)) in
       let up : le (plus (w g) (negated (w g))) (plus (w g) c) ≡ true = adds_left l (negated (w g)) c (w g) (top g h) in
       subst (λ x. le zero x ≡ true) (sym right) (subst (λ x. le x (plus (w g) c) ≡ true) (plus_negated (w g)) up)
-  ceilings plan w p f c top (suc n) past g h =
+  ceilings plan w f c top (suc n) past g h =
       let here = past ++ g ∷ [] in
       let k = plan g in
-      let row = p g h in
+      let row = (f g h).0 in
       let inside = row_in t g k row in
       let m = scaling t in
       let a = t.numerator in
@@ -116,11 +116,11 @@ module _ (le : Cost → Cost → Bool) (o : Ordered le) (l : Linear le) (t : Tab
       let mid = mean t (λ d. plus (v d) tail) (arcs_of t k) in
       let spent : E t (always plan) (suc n) here ≡ plus x (times a low) =
       ap (λ j. plus (times (t.fineness * m ^ suc n) (row_at t (plan j)).cost) (times a (mean t u (arcs_of t (plan j))))) (last_push past g) in
-      let arcs : le low mid ≡ true = le_mean le o l t u (λ d. plus (v d) tail) (λ d b. ceilings plan w p f c top n here d b) (arcs_of t k) (row_leads t k inside) in
+      let arcs : le low mid ≡ true = le_mean le o l t u (λ d. plus (v d) tail) (λ d b. ceilings plan w f c top n here d b) (arcs_of t k) (row_leads t k inside) in
       let step : le (plus x (times a low)) (plus x (times a mid)) ≡ true = adds_left l (times a low) (times a mid) x (scales_any o l a low mid arcs) in
       let out = worn t a t.total n x c (arcs_of t k) v (row_weighs t sound k inside) ∙ ap (λ y. plus y end) (sym (grown t k n w)) in
       let stay : le (times (m ^ n) (X t k w)) (times (m ^ suc n) (w g)) ≡ true =
-      subst (λ y. le (times (m ^ n) (X t k w)) y ≡ true) (sym (pow_suc_times m n (w g))) (scales_any o l (m ^ n) (X t k w) (times m (w g)) (f g h)) in
+      subst (λ y. le (times (m ^ n) (X t k w)) y ≡ true) (sym (pow_suc_times m n (w g))) (scales_any o l (m ^ n) (X t k w) (times m (w g)) (f g h).1) in
       let rest : le (plus (times (m ^ n) (X t k w)) end) (plus (times (m ^ suc n) (w g)) end) ≡ true = l.adds (times (m ^ n) (X t k w)) (times (m ^ suc n) (w g)) end stay in
       subst (λ y. le y (plus (times (m ^ suc n) (w g)) end) ≡ true) (sym spent)
       (chain3 (plus x (times a low)) (plus x (times a mid)) (plus (times (m ^ suc n) (w g)) end) step (subst (λ y. le y (plus (times (m ^ suc n) (w g)) end) ≡ true) (sym out) rest))
@@ -129,4 +129,4 @@ pub floors_bound : FloorsBound
 floors_bound le o l t sound w f names policy n g h = floors le o l t sound w f (dearest_figure le t w) (λ d b. dearest_of o w t.grades d b) names policy n [] g h
 
 pub ceilings_bound : CeilingsBound
-ceilings_bound le o l t sound plan w f n g h = ceilings le o l t sound plan w (λ d b. (f d b).0) (λ d b. (f d b).1) (dearest_figure le t (λ d. negated (w d))) (λ d b. dearest_of o (λ d. negated (w d)) t.grades d b) n [] g h
+ceilings_bound le o l t sound plan w f n g h = ceilings le o l t sound plan w f (dearest_figure le t (λ d. negated (w d))) (λ d b. dearest_of o (λ d. negated (w d)) t.grades d b) n [] g h
