@@ -31,8 +31,8 @@ abbrev pub RefusedLines : Type 0
 RefusedLines = (bs : List ℕ) (f : TextFault) → FirstRefused bs f → LineIn f
 
 -- what a sheet can say: a table, figures or none with each plan row one of the rows, and a label for each grade and row; all other ranges are the table's and the figures' own
-pub record Content (t : Table) (f : Option Figures) (gradeLabel row_label : ℕ → List ℕ) : Type 0 where
-  pub grade_labels : (i : ℕ) → i < t.grades → Label (gradeLabel i)
+pub record Content (t : Table) (f : Option Figures) (grade_label row_label : ℕ → List ℕ) : Type 0 where
+  pub grade_labels : (i : ℕ) → i < t.grades → Label (grade_label i)
   pub row_labels : (i : ℕ) → i < t.rows → Label (row_label i)
   pub plans : PlansIn t.grades t.rows f
 
@@ -50,7 +50,7 @@ SameFigures grades (Some f) None = ⊥
 SameFigures grades (Some f) (Some g) = (i : ℕ) → i < grades → SameFigure f g i
 
 -- two tables with figures and labels say the same; what lies beyond the counts in their arrays does not matter
-pub record Same (t u : Table) (f g : Option Figures) (gradeLabel gradeLabel' row_label rowLabel' : ℕ → List ℕ) : Type 0 where
+pub record Same (t u : Table) (f g : Option Figures) (grade_label grade_label' row_label row_label' : ℕ → List ℕ) : Type 0 where
   pub grades : t.grades ≡ u.grades
   pub rows : t.rows ≡ u.rows
   pub arcs : t.arcs ≡ u.arcs
@@ -62,8 +62,8 @@ pub record Same (t u : Table) (f g : Option Figures) (gradeLabel gradeLabel' row
   pub row : (i : ℕ) → i < t.rows → slice_index_or t.row i row0 ≡ slice_index_or u.row i row0
   pub arc : (i : ℕ) → i < t.arcs → slice_index_or t.arc i arc0 ≡ slice_index_or u.arc i arc0
   pub figures : SameFigures t.grades f g
-  pub grade_labels : (i : ℕ) → i < t.grades → gradeLabel i ≡ gradeLabel' i
-  pub row_labels : (i : ℕ) → i < t.rows → row_label i ≡ rowLabel' i
+  pub grade_labels : (i : ℕ) → i < t.grades → grade_label i ≡ grade_label' i
+  pub row_labels : (i : ℕ) → i < t.rows → row_label i ≡ row_label' i
 
 -- one text says one thing: contents with the same rendering are the same
 abbrev pub RenderingOne : Type 0

@@ -78,9 +78,9 @@ figure_part grades None = []
 
 -- the whole sheet of a table, with figures or without, and the labels of grades and rows
 unfoldable pub render : Table → Option Figures → (ℕ → List ℕ) → (ℕ → List ℕ) → List ℕ
-render t f gradeLabel row_label =
+render t f grade_label row_label =
     ((((line_text (header_entry t (figures_of t.grades f))
-    ++ grades_text t.first_row gradeLabel t.grades)
+    ++ grades_text t.first_row grade_label t.grades)
     ++ rows_text t.row row_label t.rows)
     ++ arcs_text t.arc t.arcs)
     ++ figure_part t.grades f)

@@ -18,7 +18,7 @@ pub record InChain (next : ℕ → ℕ) (first k : ℕ) : Type 0 where
   pub among : has k chain ≡ true
 
 pub record Sound (t : Table) : Type 0 where
-  -- exactly one first_row_lem or next index points to each row, and each row lies in some grade's chain
+  -- exactly one first-row or next index points to each row, and each row lies in some grade's chain
   pub row_pointed : (k : ℕ) → Within 1 t.rows k → count k (row_pointers t) ≡ 1
   pub row_chained : (k : ℕ) → Within 1 t.rows k → (g : ℕ) × (Within 1 t.grades g × InChain (next_row t) (first_row t g) k)
   -- the same for arcs, with the rows' first arcs
