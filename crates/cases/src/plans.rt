@@ -1,8 +1,7 @@
 //! What the tests of plans do with a sheet and with pages.
 
 ghost use Rattle.std.specs.Prelude.{◌≡◌, Ok, Err};
-ghost use Rattle.planner.specs.Start.{Start};
-ghost use Rattle.cases.specs.Shows.{Owed, LineShown, LinesShown, filing_refusal};
+ghost use Rattle.cases.specs.Shows.{Owed, Starts, Swept, LineShown, LinesShown, filing_refusal};
 
 use planner::{start_page, sweep_once};
 use rankings::{Ranking, Rounding};
@@ -12,7 +11,7 @@ use table::{FiguresFault, FiledLine, FilingFault, MAX_GRADES, Page, check_table}
 
 /// The page that plans for the sheet's table start from; a test fails where the sheet has a fault.
 pub(crate) fn started<R: Ranking>(ranking: &R, text: &[u8]) -> Result<Page, Fail>
-    ensures { elim result [ Ok p ↦ Start (R.ranks ranking.now) p | Err _ ↦ Unit {0} ] }
+    ensures { elim result [ Ok p ↦ Starts (R.ranks ranking.now) text.now p | Err _ ↦ Unit {0} ] }
 {
     let Ok(sheet) = read(text) else {
         return Err(Fail::new("the text is refused"));
@@ -24,7 +23,9 @@ pub(crate) fn started<R: Ranking>(ranking: &R, text: &[u8]) -> Result<Page, Fail
 }
 
 /// That page after one sweep.
-pub(crate) fn swept<R: Rounding>(ranking: &R, text: &[u8]) -> Result<Page, Fail> {
+pub(crate) fn swept<R: Rounding>(ranking: &R, text: &[u8]) -> Result<Page, Fail>
+    ensures { elim result [ Ok p ↦ Swept (R.Ranking.ranks ranking.now) (R.cheap ranking.now) (R.dear ranking.now) text.now p | Err _ ↦ Unit {0} ] }
+{
     let page = started(ranking, text)?;
     Ok(sweep_once(ranking, &page).page)
 }
