@@ -1,5 +1,5 @@
 -- What is so where a helper of the tests answers true, so that none can answer true always. Assumes nothing.
-use Rattle.std.specs.Prelude.{◌≡◌, ℕ, ◌<◌, Bool, true, false, List, ◌++◌, length, take, drop, get_or, pos, slice_index_or, Some, None, Ok, Option}
+use Rattle.std.specs.Prelude.{◌≡◌, ℕ, ◌<◌, Bool, true, false, List, ◌++◌, length, take, drop, get_or, pos, slice_index_or, Ok, Option}
 use Rattle.table.specs.declared.fault.FiguresFault.TheVariants.{PlanRow, Part, Floor, Ceiling}
 use Rattle.table.specs.declared.fault.FilingFault.{FilingFault}
 use Rattle.table.specs.declared.fault.FilingFault.TheVariants as fault
@@ -90,4 +90,3 @@ pub record Edited (text old new whole : List ℕ) : Type 0 where
   pub stands : StandsAt text old place
   pub first : (k : ℕ) → k < place → StandsAt text old k → ⊥
   pub is : whole ≡ (take place text ++ new) ++ drop (length old) (drop place text)
-

@@ -1,3 +1,6 @@
+ghost use Rattle.std.specs.Prelude.{ℕ, ◌<◌, length, IfOk, IfSome, IfNone};
+ghost use Rattle.cases.specs.Shows.{StandsAt, Edited};
+
 use std::alloc::{AllocError, Global};
 use std::test::Fail;
 
@@ -9,12 +12,10 @@ pub(crate) struct Edit {
 }
 
 /// The text with `new` in place of the first `old`, or none if there is no `old` in it.
-fn edited(
-    heap: Global,
-    text: &[u8],
-    old: &[u8],
-    new: &[u8],
-) -> Result<Option<Vec<u8>>, AllocError> {
+fn edited(heap: Global, text: &[u8], old: &[u8], new: &[u8]) -> Result<Option<Vec<u8>>, AllocError>
+    ensures edited { IfOk result (λ o. IfSome o (λ v. Edited text.now old.now new.now v.items)) }
+    ensures none { IfOk result (λ o. IfNone o ((k : ℕ) → k < length text.now → StandsAt text.now old.now k → ⊥)) }
+{
     for place in 0..text.len() {
         if let Some(after) = text[place..].strip_prefix(old) {
             let mut whole = text[..place].to_vec(heap)?;
@@ -27,7 +28,9 @@ fn edited(
 }
 
 /// The changed sheet; a test fails where the old text is not there.
-pub(crate) fn changed(heap: Global, sheet: &[u8], edit: &Edit) -> Result<Vec<u8>, Fail> {
+pub(crate) fn changed(heap: Global, sheet: &[u8], edit: &Edit) -> Result<Vec<u8>, Fail>
+    ensures { IfOk result (λ v. Edited sheet.now edit.now.old.now edit.now.new.now v.items) }
+{
     let text = edited(heap, sheet, edit.old, edit.new)?.ok_or(
         "the old text does not stand in the sheet",
     )?;

@@ -1,10 +1,14 @@
 //! The largest sheet: 32 grades, 96 rows, 512 arcs and figures. A grade has three rows, a row five or six arcs, a label 24
 //! bytes; costs lie at the ends of their range, and so do the figures, which are those that plans by money only start from.
 
+ghost use Rattle.std.specs.Prelude.{◌≡◌, ◌++◌, IfOk};
+
 use std::alloc::{AllocError, Global};
 
 /// The whole sheet.
-pub(crate) fn largest(heap: Global) -> Result<Vec<u8>, AllocError> {
+pub(crate) fn largest(heap: Global) -> Result<Vec<u8>, AllocError>
+    ensures { IfOk result (λ v. v.items ≡ (GRADES_AND_ROWS.now ++ ARCS.now) ++ FIGURES_AND_END.now) }
+{
     let mut sheet = GRADES_AND_ROWS.to_vec(heap)?;
     sheet.extend_from_slice(ARCS)?;
     sheet.extend_from_slice(FIGURES_AND_END)?;
