@@ -2,14 +2,8 @@
 use Rattle.std.proofs.Common.{◌≡◌, ℕ, zero, suc, ◌+◌, ◌-◌, ◌*◌, ◌<◌, ◌≤◌, List, [], ◌∷◌, ◌++◌, length, get_or, set, ap, ◌∙◌, ⊎_elim, mul-add, add-one, arith}
 use Rattle.std.proofs.lemmas.List.{get_or-set_same, get_or-set_other, length-append}
 use Rattle.std.proofs.lemmas.Bool.Decides.{eqb_tells}
-use Rattle.table.specs.Chains.{walk}
 use Rattle.table.specs.Faults.{count, gathered}
 use Rattle.table.proofs.Tallies.{Counted, count-++, count-≤}
-
-pub walk-≤ : (next : ℕ → ℕ) (f k : ℕ) → length (walk next f k) ≤ f
-walk-≤ next zero k = omega arith
-walk-≤ next (suc f) zero = omega arith
-walk-≤ next (suc f) (suc k) = let h = walk-≤ next f (next (suc k)) in omega arith
 
 pub gathered_more : (f : ℕ → List ℕ) (n : ℕ) → gathered f (n + 1) ≡ gathered f n ++ f (n + 1)
 gathered_more f n = simp (add-one n)

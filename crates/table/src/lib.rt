@@ -8,6 +8,7 @@ mod counts;
 mod fault;
 mod figures;
 mod filing;
+mod grade;
 mod limits;
 mod page;
 mod pointers;
@@ -16,6 +17,7 @@ mod rows;
 mod rules;
 mod sound;
 mod table;
+mod walk;
 mod weights;
 
 pub use ahead::lookahead;
@@ -24,6 +26,7 @@ pub use column::Column;
 pub use fault::{FiguresFault, FilingFault, TableFault};
 pub use figures::Figures;
 pub use filing::{FiledLine, check_filing};
+pub use grade::{Grade, Grades};
 pub use limits::{
     MAX_ARCS, MAX_COST_PART, MAX_DENOMINATOR, MAX_FIGURE_PART, MAX_FINENESS, MAX_GRADES, MAX_ROWS,
     MAX_TOTAL,
@@ -33,3 +36,4 @@ pub use rows::{Arc, Row};
 pub use rules::first_broken;
 pub use sound::SoundTable;
 pub use table::Table;
+pub use walk::{Linked, Walk};

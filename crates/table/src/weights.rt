@@ -11,14 +11,8 @@ fn row_weight(table: &Table, k: usize) -> u32
     ensures { result ≡ weights table.now (arcs_of table.now k) }
 {
     let mut sum = 0;
-    let mut at = table.row[k - 1].first_arc;
-    for _turn in 0..table.arcs {
-        if at == 0 {
-            break;
-        }
-        let arc = table.arc[at - 1];
-        sum += arc.weight;
-        at = arc.next;
+    for x in table.arcs_of(k) {
+        sum += table.arc[x - 1].weight;
     }
     sum
 }

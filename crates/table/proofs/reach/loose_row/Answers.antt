@@ -2,9 +2,9 @@ use Rattle.std.proofs.Common.{◌≡◌, ◌+◌, ◌-◌, [], ◌++◌, length,
 use Rattle.std.proofs.lemmas.List.{length-set}
 use Rattle.table.specs.Chains.{walk, next_row, rows_of}
 use Rattle.table.specs.Faults.{gathered}
-use Rattle.table.proofs.Walks.{walk_in, walk_end, walk_spent}
+use Rattle.table.proofs.Walks.{walk_in, walk_end, walk_spent, walk-≤}
 use Rattle.table.proofs.Tallies.{Counted, counted_none, off_none}
-use Rattle.table.proofs.Reaches.{walk-≤, gathered_more, gathered-≤, left_start, left_end, left-≤, left_more}
+use Rattle.table.proofs.Reaches.{gathered_more, gathered-≤, left_start, left_end, left-≤, left_more}
 use Rattle.table.proofs.reach.loose_row.Goals as goal
 use Rattle.table.proofs.reach.loose_row.Goals.{else-loop-turn-test, then-loop-turn-test+then-at-eq0}
 

@@ -1,0 +1,74 @@
+ghost use Rattle.std.specs.Prelude.{◌≡◌, ◌+◌, ◌-◌, MatchOption};
+ghost use Rattle.rankings.specs.Costs.{Modest, times};
+ghost use Rattle.table.specs.Ranges.{Within};
+ghost use Rattle.table.specs.Lookahead.{figure_at, scaling};
+ghost use Rattle.std.specs.Iterator.{at_most};
+
+use crate::column::Column;
+use crate::sound::SoundTable;
+use rankings::scale;
+
+/// A grade of a sound table.
+#[derive(Clone, Copy)]
+pub struct Grade<'a> {
+    pub sound: &'a SoundTable,
+    pub number: usize,
+    ghost among: { Within 1 sound.now.table.grades number },
+}
+
+impl Grade<'_> {
+    /// The grade's figure.
+    pub fn figure(self, figures: &Column) -> (i64, i64)
+        ensures { result ≡ figure_at figures.now.at self.entry.number }
+    {
+        figures.at[self.number - 1]
+    }
+
+    /// b · D times the grade's figure, as it is compared with X.
+    pub(crate) fn scaled_figure(self, figures: &Column) -> (i64, i64)
+        ensures is { result ≡ times (scaling self.entry.sound.now.table) (figure_at figures.now.at self.entry.number) }
+        ensures modest { Modest result }
+    {
+        let table = &self.sound.table;
+        scale(table.denominator * table.total, self.figure(figures))
+    }
+}
+
+/// The grades of a sound table, from those past the first `passed` on.
+#[derive(Clone, Copy)]
+pub struct Grades<'a> {
+    sound: &'a SoundTable,
+    passed: usize,
+}
+
+impl SoundTable {
+    /// Each grade, in order.
+    pub fn grades(&self) -> Grades<'_>
+        ensures sound { result.sound.now ≡ self.now }
+        ensures start { result.passed ≡ 0 }
+    {
+        Grades {
+            sound: self,
+            passed: 0,
+        }
+    }
+}
+
+impl<'a> Iterator for Grades<'a> {
+    type Item = Grade<'a>;
+
+    ghost next_gives = { λ s r t. (t.sound ≡ s.sound) × MatchOption r (s.sound.now.table.grades - s.passed ≡ 0) (λ g. (g.sound ≡ s.sound) × (g.number ≡ s.passed + 1) × (t.passed ≡ s.passed + 1)) };
+
+    ghost remaining = { λ s. at_most (s.sound.now.table.grades - s.passed) };
+
+    fn next(&mut self) -> Option<Grade<'a>> {
+        if self.passed >= self.sound.table.grades {
+            return None;
+        }
+        self.passed += 1;
+        Some(Grade {
+            sound: self.sound,
+            number: self.passed,
+        })
+    }
+}
