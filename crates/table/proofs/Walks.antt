@@ -1,9 +1,12 @@
 -- One step of a walk along a chain, and its ends. Assumes nothing.
-use Rattle.std.proofs.Common.{◌≡◌, ℕ, zero, suc, ◌+◌, ◌-◌, ◌*◌, ◌<◌, ◌≤◌, List, [], ◌∷◌, length, refl, ap, arith}
+use Rattle.std.proofs.Common.{◌≡◌, ℕ, zero, suc, ◌+◌, ◌-◌, ◌*◌, ◌<◌, ◌≤◌, List, [], ◌∷◌, length, get_or, eqb, refl, ap, ◌∙◌, arith, rules}
+use Rattle.std.proofs.lemmas.List.Sums.{sum_by-cons}
 use Rattle.table.specs.declared.table.Table.{Table}
 use Rattle.table.specs.Ranges.{Within}
-use Rattle.table.specs.Chains.{walk, row_at, first_row, next_row, rows_of, next_arc, arcs_of, weights}
+use Rattle.table.specs.Chains.{walk, row_at, first_row, next_row, rows_of, next_arc, arc_at, arcs_of, weights}
 use Rattle.table.specs.Walks.{AllIn}
+use Rattle.table.specs.Rules.{has}
+use Rattle.std.specs.List.{list_any, sum_by}
 
 module _ (next : ℕ → ℕ) where
   -- at a number that is not 0, with fuel left
@@ -56,3 +59,16 @@ module _ (t : Table) where
 
   pub row_weights-≤ : (k : ℕ) → Within 1 t.rows k → weights t (arcs_of t k) ≤ 512000
   row_weights-≤ k h = omega (arith, weights-≤ (arcs_of t k) (arcs_all k h), walk-≤ (next_arc t) t.arcs (row_at t k).first_arc, t.arced.1)
+
+pub any_has : (k : ℕ) (xs : List ℕ) → list_any (λ x. eqb x k) xs ≡ has k xs
+any_has k [] = refl
+any_has k (x ∷ xs) = let rest = any_has k xs in search rules
+
+pub all_at : (n : ℕ) (xs : List ℕ) (i x : ℕ) → i < length xs → x ≡ get_or xs i x → AllIn n xs → Within 1 n x
+all_at n [] i x h e all = absurd (omega arith)
+all_at n (y ∷ ys) zero x h e all = (omega (arith, all.0.0), omega (arith, all.0.1))
+all_at n (y ∷ ys) (suc i) x h e all = all_at n ys i x (omega arith) e all.1
+
+pub sum_weights : (t : Table) (xs : List ℕ) → sum_by (λ x. (arc_at t x).weight) xs ≡ weights t xs
+sum_weights t [] = refl
+sum_weights t (x ∷ xs) = sum_by-cons (λ y. (arc_at t y).weight) x xs ∙ ap (λ n. (arc_at t x).weight + n) (sum_weights t xs)

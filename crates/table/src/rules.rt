@@ -19,17 +19,7 @@ fn has_row(table: &Table, g: usize, k: usize) -> bool
     requires { Within 1 table.now.grades g }
     ensures { result ≡ has k (rows_of table.now g) }
 {
-    let mut at = table.first_row[g - 1];
-    for _turn in 0..table.rows {
-        if at == 0 {
-            break;
-        }
-        if at == k {
-            return true;
-        }
-        at = table.row[at - 1].next;
-    }
-    false
+    table.rows_of(g).any(|row| row == k)
 }
 
 /// Whether the floor of the grade g keeps to what the row k allows.

@@ -72,7 +72,7 @@ impl Table {
         ensures links { result.links.now ≡ self.now.row }
         ensures is { ahead (λ r. r.next) row0 result ≡ rows_of self.now g }
         ensures within { AllIn self.now.rows (rows_of self.now g) }
-        ensures can { AllIn 96 (rows_of self.now g) }
+        ensures can { AllIn (length result.links.now) (ahead (λ r. r.next) row0 result) }
     {
         Walk {
             links: &self.row,
@@ -87,7 +87,7 @@ impl Table {
         ensures links { result.links.now ≡ self.now.arc }
         ensures is { ahead (λ x. x.next) arc0 result ≡ arcs_of self.now k }
         ensures within { AllIn self.now.arcs (arcs_of self.now k) }
-        ensures can { AllIn 512 (arcs_of self.now k) }
+        ensures can { AllIn (length result.links.now) (ahead (λ x. x.next) arc0 result) }
     {
         Walk {
             links: &self.arc,

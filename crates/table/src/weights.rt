@@ -10,11 +10,7 @@ fn row_weight(table: &Table, k: usize) -> u32
     requires { Within 1 table.now.rows k }
     ensures { result ≡ weights table.now (arcs_of table.now k) }
 {
-    let mut sum = 0;
-    for x in table.arcs_of(k) {
-        sum += table.arc[x - 1].weight;
-    }
-    sum
+    table.arcs_of(k).map(|x| table.arc[x - 1].weight).sum()
 }
 
 /// The lowest row whose weights do not sum to the total.

@@ -1,10 +1,36 @@
-use Rattle.std.proofs.Common.{ap, arith}
-use Rattle.table.specs.Chains.{weights}
-use Rattle.table.proofs.Walks.{row_weights-≤}
+use Rattle.std.proofs.Common.{◌≡◌, ◌<◌, ◌^◌, ◌-◌, get_or, ◌∙◌, length, subst, sym, ap, arith, rules, tests}
+use Rattle.std.proofs.lemmas.Iterator.{YieldsList-from_map}
+use Rattle.std.proofs.lemmas.Iterator.Adapters.{serves_from_places}
+use Rattle.std.proofs.lemmas.Iterator.Consumers.{YieldsList-at, YieldsList-from_first, sum_by_from_yields_List, fits_by_from_yields_list}
+use Rattle.table.specs.Ranges.{arc0}
+use Rattle.table.specs.Chains.{arc_at, arcs_of}
+use Rattle.table.specs.Walks.{ahead, AllIn}
+use Rattle.table.proofs.Walks.{all_at, sum_weights, row_weights-≤}
 use Rattle.table.proofs.weights.row_weight.Goals as goal
 
-pub overflow_add-sum : goal.overflow_add-sum
-overflow_add-sum c =
+pub sum-requires-clause-can : goal.sum-requires-clause-can
+sum-requires-clause-can c =
     let t = c.args.table.now in
-    let step = ap (weights t) c.in-Some.ensures.steps in
-    omega (arith, row_weights-≤ t c.args.k c.requires, c.loop-x.invariant.1)
+    let xs = arcs_of t c.args.k in
+    let is = ap (ahead (λ x. x.next) arc0) c.map.ensures.source ∙ c.arcs_of.ensures.is in (
+      subst (λ w. AllIn (length w.links.now) (ahead (λ x. x.next) arc0 w)) (sym c.map.ensures.source) c.arcs_of.ensures.can,
+      serves_from_places (YieldsList-from_first (λ x. x) (ahead (λ x. x.next) arc0) xs is) (λ x q k. search rules) (λ x i lt at. let here = all_at t.arcs xs i x lt at c.arcs_of.ensures.within in search rules),
+    )
+
+pub sum-requires-clause-fits : goal.sum-requires-clause-fits
+sum-requires-clause-fits c =
+    let t = c.args.table.now in
+    let xs = arcs_of t c.args.k in
+    let is = ap (ahead (λ x. x.next) arc0) c.map.ensures.source ∙ c.arcs_of.ensures.is in
+    fits_by_from_yields_list (λ x. (arc_at t x).weight) xs c.map.result (2 ^ 32)
+    (YieldsList-from_map _ (λ x. (arc_at t x).weight) (YieldsList-from_first (λ x. x) (ahead (λ x. x.next) arc0) xs is) c.map.ensures.closure (λ x r q k. search rules))
+    (omega (arith, row_weights-≤ t c.args.k c.requires, sum_weights t xs))
+
+pub returns : goal.returns
+returns c =
+    let t = c.args.table.now in
+    let xs = arcs_of t c.args.k in
+    let is = ap (ahead (λ x. x.next) arc0) c.map.ensures.source ∙ c.arcs_of.ensures.is in
+    sum_by_from_yields_List (λ x. (arc_at t x).weight) xs c.map.result c.sum.result c.sum.ensures.ran
+    (YieldsList-from_map _ (λ x. (arc_at t x).weight) (YieldsList-from_first (λ x. x) (ahead (λ x. x.next) arc0) xs is) c.map.ensures.closure (λ x r q k. search rules))
+    ∙ sum_weights t xs
