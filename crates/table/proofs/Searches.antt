@@ -1,8 +1,8 @@
 -- A search for the lowest number that fails, step by step. Assumes nothing.
-use Rattle.std.proofs.Common.{◌≡◌, ℕ, zero, suc, ◌+◌, ◌-◌, ◌<◌, ◌≤◌, Bool, true, false, List, get_or, Some, None, sym, refl, ap, ◌∙◌, ⊎_elim, arith}
+use Rattle.std.proofs.Common.{◌≡◌, ℕ, zero, suc, ◌+◌, ◌-◌, ◌<◌, ◌≤◌, Bool, true, false, not, ◌&&◌, leb, List, length, get_or, Some, None, Option, MatchOption, option_map, sym, refl, ap, ◌∙◌, ⊎_elim, arith}
 use Rattle.std.proofs.lemmas.Bool.{cases_Bool, cases_eq}
-use Rattle.std.proofs.lemmas.Bool.Decides.{nat_tests}
-use Rattle.table.specs.Faults.{outside, first_from}
+use Rattle.std.specs.List.{AllWithin, HoldsAt}
+use Rattle.table.specs.Faults.{outside, first_from, lowest}
 
 module _ (bad : ℕ → Bool) (k : ℕ) where
   pub found_here : (n h : ℕ) → n ≡ h + 1 → bad k ≡ true → first_from bad n k ≡ Some k
@@ -37,16 +37,40 @@ none_found bad (suc n) k e i lo hi =
     (cases_eq i k))
     (cases_Bool (bad k))
 
--- the count at an index, which is numbered one higher
-module _ (least most : ℕ) (cs : List ℕ) (i : ℕ) where
-  same : i + 1 - 1 ≡ i
-  same = omega arith
+-- the first number from k on of which the test holds, said without a search
+abbrev pub IsFirst : (ℕ → Bool) → ℕ → ℕ → Option ℕ → Type 0
+IsFirst bad n k r = MatchOption r ((i : ℕ) → k ≤ i → i < k + n → bad i ≡ false) (λ i. (k ≤ i) × (i < k + n) × (bad i ≡ true) × ((j : ℕ) → k ≤ j → j < i → bad j ≡ false))
 
-  pub inside : least ≤ get_or cs i 0 → get_or cs i 0 ≤ most → outside least most cs (i + 1) ≡ false
-  inside lo hi = rw same (grind (arith, nat_tests))
+pub first_is : (bad : ℕ → Bool) (n k : ℕ) (r : Option ℕ) → IsFirst bad n k r → r ≡ first_from bad n k
+first_is bad zero k None h = refl
+first_is bad zero k (Some i) h = absurd (omega (arith, h.0, h.1))
+first_is bad (suc n) k None h =
+    first_is bad n (k + 1) None (λ i lo hi. h i (omega arith) (omega arith))
+    ∙ sym (found_later bad k (suc n) n (omega arith) (h k (omega arith) (omega arith)))
+first_is bad (suc n) k (Some i) h =
+    ⊎_elim
+    (λ same. ap Some same ∙ sym (found_here bad k (suc n) n (omega arith) (ap bad (sym same) ∙ h.2)))
+    (λ apart.
+    first_is bad n (k + 1) (Some i) (omega (arith, h.0, apart), omega (arith, h.1), h.2, λ j lo hi. h.3 j (omega arith) hi)
+    ∙ sym (found_later bad k (suc n) n (omega arith) (h.3 k (omega arith) (omega (arith, h.0, apart)))))
+    (cases_eq i k)
 
-  pub below : get_or cs i 0 < least → outside least most cs (i + 1) ≡ true
-  below lo = rw same (grind (arith, nat_tests))
+-- the same of the first place in a list at which a test of the elements holds, which is numbered one higher
+module _ {X : Type 0} (test : X → Bool) (d : X) (bad : ℕ → Bool) (xs : List X) (reads : (i : ℕ) → i < length xs → bad (i + 1) ≡ test (get_or xs i d)) where
+  up : (i : ℕ) → 1 ≤ i → i < 1 + length xs → bad i ≡ test (get_or xs (i - 1) d)
+  up i lo hi = let same : i - 1 + 1 ≡ i = omega arith in ap bad (sym same) ∙ reads (i - 1) (omega arith)
 
-  pub above : most < get_or cs i 0 → outside least most cs (i + 1) ≡ true
-  above hi = rw same (grind (arith, nat_tests))
+  pub lowest_place : (r : Option ℕ) →
+      MatchOption r (AllWithin (λ x. test x ≡ false) xs 0 (length xs)) (λ i. (i < length xs) × HoldsAt (λ x. test x ≡ true) xs i × AllWithin (λ x. test x ≡ false) xs 0 i) →
+      option_map (λ i. i + 1) r ≡ lowest bad (length xs)
+  lowest_place None h = first_is bad (length xs) 1 None (λ i lo hi. up i lo hi ∙ h (i - 1) d (omega arith) (omega arith))
+  lowest_place (Some i) h =
+      first_is bad (length xs) 1 (Some (i + 1))
+      (omega arith, omega (arith, h.0), reads i h.0 ∙ h.1 d, λ j lo hi. up j lo (omega (arith, h.0)) ∙ h.2 (j - 1) d (omega arith) (omega arith))
+
+-- whether a count is out of bounds
+abbrev pub off : ℕ → ℕ → ℕ → Bool
+off least most n = not (leb least n && leb n most)
+
+pub outside_off : (least most : ℕ) (cs : List ℕ) (i : ℕ) → outside least most cs (i + 1) ≡ off least most (get_or cs i 0)
+outside_off least most cs i = let same : i + 1 - 1 ≡ i = omega arith in ap (λ j. off least most (get_or cs j 0)) same

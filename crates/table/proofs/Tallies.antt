@@ -1,8 +1,9 @@
 -- Counts of the numbers of a list, one number more at a time. Assumes nothing.
-use Rattle.std.proofs.Common.{◌≡◌, ℕ, ◌+◌, ◌-◌, ◌<◌, ◌≤◌, cond, eqb, List, [], ◌∷◌, ◌++◌, length, get_or, take, set, replicate, sym, ap, ◌∙◌, ⊎_elim, add-zero, arith}
-use Rattle.std.proofs.lemmas.List.{get_or-replicate, get_or-set_same, get_or-set_other, get_or-take, length-take-le}
+use Rattle.std.proofs.Common.{◌≡◌, ℕ, zero, suc, ◌+◌, ◌-◌, ◌<◌, ◌≤◌, cond, eqb, List, [], ◌∷◌, ◌++◌, map, length, get_or, take, set, replicate, sym, refl, ap, ◌∙◌, subst, append_assoc, ⊎_elim, add-zero, arith}
+use Rattle.std.proofs.lemmas.List.{length-set, length-append, length-map, length-take, map_more, get_or-replicate, get_or-set_same, get_or-set_other, get_or-take, length-take-le}
 use Rattle.std.proofs.lemmas.Bool.{ne_eqb}
 use Rattle.std.proofs.lemmas.Bool.Decides.{eqb_tells, nat_tests}
+use Rattle.table.specs.Counts.{one_more}
 use Rattle.table.specs.Faults.{count, lowest, outside, mispointed, loose}
 use Rattle.table.proofs.Searches.{same_search}
 
@@ -17,6 +18,10 @@ count-≤ k (x ∷ xs) =
     let one : cond (eqb x k) 1 0 ≤ 1 = grind (arith, nat_tests) in
     omega arith
 
+pub length-one_more : (x : ℕ) (cs : List ℕ) → length (one_more x cs) ≡ length cs
+length-one_more zero cs = refl
+length-one_more (suc j) cs = length-set cs j _
+
 -- the first n of the counts are those of the numbers of a list
 pub record Counted (n : ℕ) (cs xs : List ℕ) : Type 0 where
   pub at : (i : ℕ) → i < n → get_or cs i 0 ≡ count (i + 1) xs
@@ -25,24 +30,28 @@ pub counted_none : (size n : ℕ) → n ≤ size → Counted n (replicate size 0
 counted_none size n h = record { at = λ i lt. get_or-replicate size i 0 0 (omega arith) }
 
 module _ {n : ℕ} {cs xs : List ℕ} (so : Counted n cs xs) where
-  pub counted_more : (x : ℕ) → 0 < x → x ≤ n → n ≤ length cs → Counted n (set cs (x - 1) (get_or cs (x - 1) 0 + 1)) (xs ++ x ∷ [])
-  counted_more x lo hi fit = record {
+  counted_at : (j : ℕ) → j < n → n ≤ length cs → Counted n (set cs j (get_or cs j 0 + 1)) (xs ++ suc j ∷ [])
+  counted_at j hi fit = record {
     at = λ i h.
-        let push = count-++ (i + 1) xs (x ∷ []) in
+        let push = count-++ (i + 1) xs (suc j ∷ []) in
         ⊎_elim
         (λ e.
-        let same : x - 1 ≡ i = omega (arith, e.1) in
+        let same : j ≡ i = omega (arith, e.1) in
         let inside : i < length cs = omega arith in
-        ap (λ j. get_or (set cs j (get_or cs j 0 + 1)) i 0) same ∙ get_or-set_same cs i _ 0 inside ∙ ap (λ m. m + 1) (so.at i h) ∙ sym (push ∙ simp e.0))
-        (λ e. get_or-set_other cs (x - 1) i _ 0 (λ q. e.1 (omega arith)) ∙ so.at i h ∙ sym (push ∙ simp (e.0, add-zero)))
-        (eqb_tells x (i + 1));
+        ap (λ m. get_or (set cs m (get_or cs m 0 + 1)) i 0) same ∙ get_or-set_same cs i _ 0 inside ∙ ap (λ m. m + 1) (so.at i h) ∙ sym (push ∙ simp e.0))
+        (λ e. get_or-set_other cs j i _ 0 (λ q. e.1 (omega arith)) ∙ so.at i h ∙ sym (push ∙ simp (e.0, add-zero)))
+        (eqb_tells (suc j) (i + 1));
   }
 
   -- an index that is 0 points nowhere
-  pub counted_zero : (x : ℕ) → x ≡ 0 → Counted n cs (xs ++ x ∷ [])
-  counted_zero x none = record {
-    at = λ i h. so.at i h ∙ sym (count-++ (i + 1) xs (x ∷ []) ∙ simp (ne_eqb x (i + 1) (omega arith), add-zero));
+  counted_zero : Counted n cs (xs ++ 0 ∷ [])
+  counted_zero = record {
+    at = λ i h. so.at i h ∙ sym (count-++ (i + 1) xs (0 ∷ []) ∙ simp (ne_eqb 0 (i + 1) (omega arith), add-zero));
   }
+
+  pub counted_more : (x : ℕ) → x ≤ n → n ≤ length cs → Counted n (one_more x cs) (xs ++ x ∷ [])
+  counted_more zero hi fit = counted_zero
+  counted_more (suc j) hi fit = counted_at j hi fit
 
   -- no count is larger than the list is long
   pub counted-≤ : (i : ℕ) → i < n → get_or cs i 0 ≤ length xs
@@ -53,13 +62,28 @@ module _ {n : ℕ} {cs xs : List ℕ} (so : Counted n cs xs) where
       let same : k - 1 + 1 ≡ k = omega arith in
       get_or-take n cs (k - 1) 0 (omega arith) ∙ so.at (k - 1) (omega arith) ∙ ap (λ j. count j xs) same
 
-  -- the code hands on the first m counts, and m is n
-  pub off_one : (m : ℕ) → m ≡ n → n ≤ length cs → lowest (outside 1 1 (take m cs)) (length (take m cs)) ≡ lowest (mispointed xs) n
-  off_one m e fit =
-      ap (λ j. lowest (outside 1 1 (take j cs)) (length (take j cs))) e ∙ ap (lowest (outside 1 1 (take n cs))) (length-take-le n cs fit)
+  -- the code hands on the first n counts
+  pub off_one : n ≤ length cs → lowest (outside 1 1 (take n cs)) (length (take n cs)) ≡ lowest (mispointed xs) n
+  off_one fit =
+      ap (lowest (outside 1 1 (take n cs))) (length-take-le n cs fit)
       ∙ same_search (outside 1 1 (take n cs)) (mispointed xs) n 1 (λ k lo hi. rw (entry k lo hi) (grind (arith, nat_tests)))
 
-  pub off_none : (m : ℕ) → m ≡ n → n ≤ length cs → length xs ≤ 65535 → lowest (outside 1 65535 (take m cs)) (length (take m cs)) ≡ lowest (loose xs) n
-  off_none m e fit few =
-      ap (λ j. lowest (outside 1 65535 (take j cs)) (length (take j cs))) e ∙ ap (lowest (outside 1 65535 (take n cs))) (length-take-le n cs fit)
+  pub off_none : n ≤ length cs → length xs ≤ 65535 → lowest (outside 1 65535 (take n cs)) (length (take n cs)) ≡ lowest (loose xs) n
+  off_none fit few =
+      ap (lowest (outside 1 65535 (take n cs))) (length-take-le n cs fit)
       ∙ same_search (outside 1 65535 (take n cs)) (loose xs) n 1 (λ k lo hi. let most = count-≤ k xs in rw (entry k lo hi) (grind (arith, nat_tests)))
+
+-- one thing more of a list has been counted, after `before`
+module _ {A : Type 0} (f : A → ℕ) (ys : List A) (i : ℕ) (d : A) (inside : i < length ys) (before : List ℕ) (n size : ℕ) (fit : n ≤ size) (cs : List ℕ)
+    (so : (length cs ≡ size) × Counted n cs (before ++ map f (take i ys))) where
+  pub tally_room : length before + length ys ≤ 65535 → (x : ℕ) → x ≤ n → 0 < x → get_or cs (x - 1) 0 < 65535
+  tally_room few x hi lo =
+      omega (arith, counted-≤ so.1 (x - 1) (omega arith), length-append before (map f (take i ys)), length-map (take i ys) f, length-take i ys)
+
+  pub tally_step : (x : ℕ) (ds : List ℕ) → x ≡ f (get_or ys i d) → x ≤ n → ds ≡ one_more x cs → (length ds ≡ size) × Counted n ds (before ++ map f (take (i + 1) ys))
+  tally_step x ds is hi e =
+      let pushed : before ++ map f (take (i + 1) ys) ≡ (before ++ map f (take i ys)) ++ x ∷ [] =
+      ap (λ l. before ++ l) (map_more f ys i d inside) ∙ sym (append_assoc before (map f (take i ys)) (f (get_or ys i d) ∷ [])) ∙ ap (λ y. (before ++ map f (take i ys)) ++ y ∷ []) (sym is) in (
+        ap length e ∙ length-one_more x cs ∙ so.0,
+        subst (λ l. Counted n l (before ++ map f (take (i + 1) ys))) (sym e) (subst (Counted n (one_more x cs)) (sym pushed) (counted_more so.1 x hi (omega (arith, so.0)))),
+      )

@@ -1,6 +1,7 @@
-ghost use Rattle.std.specs.Prelude.{◌≡◌, ◌-◌, ℕ, slice_index_or, length};
+ghost use Rattle.std.specs.Prelude.{◌≡◌, ◌≤◌, ℕ, length};
+ghost use Rattle.std.specs.List.{All};
 ghost use Rattle.std.specs.Iterator.{YieldsFirst, item_count};
-ghost use Rattle.table.specs.Walks.{ahead, AllIn};
+ghost use Rattle.table.specs.Walks.{ahead, chain_from, AllIn};
 ghost use Rattle.table.specs.Ranges.{Within, row0, arc0};
 ghost use Rattle.table.specs.Chains.{rows_of, arcs_of};
 
@@ -37,12 +38,56 @@ impl Linked for Arc {
     }
 }
 
+/// What a chain starts at: the number of its first.
+pub(crate) trait Head {
+    ghost head: { Self → ℕ };
+
+    fn head(&self) -> usize
+        ensures { result ≡ head self.now };
+}
+
+/// A grade's first row.
+impl Head for usize {
+    ghost head = { λ k. k };
+
+    fn head(&self) -> usize {
+        *self
+    }
+}
+
+/// A row's first arc.
+impl Head for Row {
+    ghost head = { λ r. r.first_arc };
+
+    fn head(&self) -> usize {
+        self.first_arc
+    }
+}
+
 /// The numbers of a chain. It leaves one that turns back on itself after `left` steps.
 #[derive(Clone, Copy)]
 pub struct Walk<'a, T> {
     links: &'a [T],
     at: usize,
     left: usize,
+}
+
+impl<'a, T: Linked> Walk<'a, T> {
+    /// The chain through the links that starts at `first`.
+    pub(crate) fn new(links: &'a [T], first: usize) -> Self
+        requires start { first ≤ length links.now }
+        requires linked { All (λ x. T.next_link x ≤ length links.now) links.now }
+        ensures is { ahead T.next_link T.none result ≡ chain_from T.next_link T.none links.now first }
+        ensures within { AllIn (length links.now) (chain_from T.next_link T.none links.now first) }
+        ensures can { AllIn (length result.links.now) (ahead T.next_link T.none result) }
+    {
+        let left = links.len();
+        Walk {
+            links,
+            at: first,
+            left,
+        }
+    }
 }
 
 impl<T: Linked> Iterator for Walk<'_, T> {
@@ -69,30 +114,20 @@ impl Table {
     /// The rows of the grade g, in chain order.
     pub fn rows_of(&self, g: usize) -> Walk<'_, Row>
         requires { Within 1 self.now.grades g }
-        ensures links { result.links.now ≡ self.now.row }
         ensures is { ahead (λ r. r.next) row0 result ≡ rows_of self.now g }
         ensures within { AllIn self.now.rows (rows_of self.now g) }
         ensures can { AllIn (length result.links.now) (ahead (λ r. r.next) row0 result) }
     {
-        Walk {
-            links: &self.row,
-            at: self.first_row[g - 1],
-            left: self.rows,
-        }
+        Walk::new(&self.row[..self.rows], self.first_row[g - 1])
     }
 
     /// The arcs of the row k, in chain order.
     pub fn arcs_of(&self, k: usize) -> Walk<'_, Arc>
         requires { Within 1 self.now.rows k }
-        ensures links { result.links.now ≡ self.now.arc }
         ensures is { ahead (λ x. x.next) arc0 result ≡ arcs_of self.now k }
         ensures within { AllIn self.now.arcs (arcs_of self.now k) }
         ensures can { AllIn (length result.links.now) (ahead (λ x. x.next) arc0 result) }
     {
-        Walk {
-            links: &self.arc,
-            at: self.row[k - 1].first_arc,
-            left: self.arcs,
-        }
+        Walk::new(&self.arc[..self.arcs], self.row[k - 1].first_arc)
     }
 }

@@ -1,22 +1,14 @@
-use Rattle.std.proofs.Common.{◌≡◌, ◌+◌, ◌-◌, true, length, sym, ◌∙◌, arith}
+use Rattle.std.proofs.Common.{◌≡◌, ◌+◌, true, false, option_map, ◌∙◌, arith, rules, tests}
+use Rattle.std.proofs.lemmas.Bool.Decides.{nat_tests}
+use Rattle.std.proofs.lemmas.Iterator.{YieldsList-from_slice, IsFirst-from_position}
 use Rattle.table.specs.Faults.{outside}
-use Rattle.table.proofs.Searches.{found_here, found_later, inside, below, above}
+use Rattle.table.proofs.Searches.{lowest_place, off, outside_off}
 use Rattle.table.proofs.counts.lowest_off.Goals as goal
-use Rattle.table.proofs.counts.lowest_off.Goals.{then-counts-i-via-then-counts-i, then-counts-i-via-else-counts-i+then-counts-i-2}
 
-pub returns-then-counts-i : goal.returns-then-counts-i
-returns-then-counts-i c =
+pub returns : goal.returns
+returns c =
     let cs = c.args.counts.now in
-    let i = c.loop-i.i in
-    let bad : outside c.args.least c.args.most cs (i + 1) ≡ true =
-    elim c.then-counts-i.branch [
-      | then-counts-i-via-then-counts-i w ↦ below c.args.least c.args.most cs i (omega arith)
-      | then-counts-i-via-else-counts-i+then-counts-i-2 w ↦ above c.args.least c.args.most cs i (omega arith)
-    ] in
-    sym (found_here (outside c.args.least c.args.most cs) (i + 1) (length cs - i) (length cs - (i + 1)) (omega arith) bad) ∙ c.loop-i.invariant
-
-pub loop-i-preserved : goal.loop-i-preserved
-loop-i-preserved c =
-    let cs = c.args.counts.now in
-    let i = c.loop-i.i in
-    sym (found_later (outside c.args.least c.args.most cs) (i + 1) (length cs - i) (length cs - (i + 1)) (omega arith) (inside c.args.least c.args.most cs i c.if-counts-i.false c.if-counts-i-2.false)) ∙ c.loop-i.invariant
+    let test = off c.args.least c.args.most in
+    let numbered : c.map.result ≡ option_map (λ i. i + 1) c.position-off.result = search rules in
+    numbered ∙ lowest_place test 0 (outside c.args.least c.args.most cs) cs (λ i h. outside_off c.args.least c.args.most cs i) c.position-off.result
+    (IsFirst-from_position c.position-off.new.self _ c.position-off.result (λ n. test n ≡ true) (λ n. test n ≡ false) c.position-off.ensures.ran (YieldsList-from_slice cs cc) (λ x q k. grind (arith, nat_tests)) (λ x q k. search (rules, tests)))

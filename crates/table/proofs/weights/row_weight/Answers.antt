@@ -1,7 +1,7 @@
-use Rattle.std.proofs.Common.{◌≡◌, ◌<◌, ◌^◌, ◌-◌, get_or, ◌∙◌, length, subst, sym, ap, arith, rules, tests}
+use Rattle.std.proofs.Common.{◌^◌, ◌∙◌, length, subst, sym, ap, arith, rules}
 use Rattle.std.proofs.lemmas.Iterator.{YieldsList-from_map}
 use Rattle.std.proofs.lemmas.Iterator.Adapters.{serves_from_places}
-use Rattle.std.proofs.lemmas.Iterator.Consumers.{YieldsList-at, YieldsList-from_first, sum_by_from_yields_List, fits_by_from_yields_list}
+use Rattle.std.proofs.lemmas.Iterator.Consumers.{YieldsList-from_first, sum_by_from_yields_List, fits_by_from_yields_list}
 use Rattle.table.specs.Ranges.{arc0}
 use Rattle.table.specs.Chains.{arc_at, arcs_of}
 use Rattle.table.specs.Walks.{ahead, AllIn}
@@ -24,7 +24,7 @@ sum-requires-clause-fits c =
     let is = ap (ahead (λ x. x.next) arc0) c.map.ensures.source ∙ c.arcs_of.ensures.is in
     fits_by_from_yields_list (λ x. (arc_at t x).weight) xs c.map.result (2 ^ 32)
     (YieldsList-from_map _ (λ x. (arc_at t x).weight) (YieldsList-from_first (λ x. x) (ahead (λ x. x.next) arc0) xs is) c.map.ensures.closure (λ x r q k. search rules))
-    (omega (arith, row_weights-≤ t c.args.k c.requires, sum_weights t xs))
+    (omega (arith, row_weights-≤ t c.args.k c.arcs_of.ensures.within, sum_weights t xs))
 
 pub returns : goal.returns
 returns c =

@@ -1,12 +1,10 @@
-use Rattle.std.proofs.Common.{length, arith}
-use Rattle.table.specs.Chains.{arcs_of}
-use Rattle.table.proofs.Walks.{arcs_all, all_more}
+use Rattle.std.proofs.Common.{◌-◌, ◌∙◌, arith}
+use Rattle.table.specs.Chains.{row_at}
+use Rattle.table.proofs.Walks.{arc_chain, arc_walk}
 use Rattle.table.proofs.table.Table.arcs_of.Goals as goal
 
-pub returns-clause-within : goal.returns-clause-within
-returns-clause-within c = arcs_all c.args.self.now c.args.k c.requires
+pub returns-clause-is : goal.returns-clause-is
+returns-clause-is c = let t = c.args.self.now in c.new.ensures.is ∙ arc_chain t (row_at t c.args.k).first_arc (t.rowsin (c.args.k - 1) (omega arith)).1.1
 
-pub returns-clause-can : goal.returns-clause-can
-returns-clause-can c =
-    let t = c.args.self.now in
-    all_more t.arcs (length t.arc) (arcs_of t c.args.k) (omega (arith, t.arclong, t.arced.1)) (arcs_all t c.args.k c.requires)
+pub returns-clause-within : goal.returns-clause-within
+returns-clause-within c = let t = c.args.self.now in arc_walk t (row_at t c.args.k).first_arc (t.rowsin (c.args.k - 1) (omega arith)).1.1
