@@ -1,7 +1,12 @@
 -- A search for the lowest number that fails, step by step. Assumes nothing.
-use Rattle.std.proofs.Common.{◌≡◌, ℕ, zero, suc, ◌+◌, ◌-◌, ◌<◌, ◌≤◌, Bool, true, false, not, ◌&&◌, leb, List, length, get_or, Some, None, Option, MatchOption, option_map, sym, refl, ap, ◌∙◌, ⊎_elim, arith}
+use Rattle.std.proofs.Common.{add-one, inl, inr, subst, ◌≡◌, ℕ, zero, suc, ◌+◌, ◌-◌, ◌<◌, ◌≤◌, Bool, true, false, not, ◌&&◌, leb, cond, List, ◌∷◌, ◌⊎◌, length, get_or, Some, None, Option, MatchOption, option_map, sym, refl, ap, ◌∙◌, ⊎_elim, arith}
 use Rattle.std.proofs.lemmas.Bool.{cases_Bool, cases_eq}
-use Rattle.std.specs.List.{AllWithin, HoldsAt}
+use Rattle.std.proofs.iter.runs.Sources.{nat_range_inclusive_steps}
+use Rattle.std.specs.declared.ops.RangeInclusive.{RangeInclusive}
+use Rattle.std.specs.Range.{range_inclusive_start, range_inclusive_end, range_inclusive_exhausted, range_inclusive_len, range_inclusive_left}
+use Rattle.std.proofs.lemmas.Iterator.{YieldsList}
+use Rattle.std.proofs.lemmas.Iterator.Consumers.{YieldsList-from_shown}
+use Rattle.std.specs.List.{AllWithin, HoldsAt, find, range_with_len}
 use Rattle.table.specs.Faults.{outside, first_from, lowest}
 
 module _ (bad : ℕ → Bool) (k : ℕ) where
@@ -74,3 +79,29 @@ off least most n = not (leb least n && leb n most)
 
 pub outside_off : (least most : ℕ) (cs : List ℕ) (i : ℕ) → outside least most cs (i + 1) ≡ off least most (get_or cs i 0)
 outside_off least most cs i = let same : i + 1 - 1 ≡ i = omega arith in ap (λ j. off least most (get_or cs j 0)) same
+
+-- what `a..=b` gives
+abbrev left : RangeInclusive ℕ → List ℕ
+left s = range_with_len (range_inclusive_start s) (range_inclusive_left (λ x y. y - x) s)
+
+inclusive_gives : (s : RangeInclusive ℕ) → YieldsList nat_range_inclusive_steps (λ x. x) s (left s)
+inclusive_gives =
+    YieldsList-from_shown nat_range_inclusive_steps (λ x. x) left
+    (λ s t p. ap (λ n. length (range_with_len (range_inclusive_start s) n)) p.1.0)
+    (λ s x t p.
+    step (range_inclusive_start s) (range_inclusive_left (λ x y. y - x) s) (range_inclusive_start t) (range_inclusive_left (λ x y. y - x) t) x p.1.1 p.1.0
+    (⊎_elim (λ e. inl (ap (range_inclusive_len (λ x y. y - x) (range_inclusive_start t) (range_inclusive_end t)) e)) (λ e. inr (p.1.2 e)) (cases_Bool (range_inclusive_exhausted t))))
+  where
+    step : (a m b n x : ℕ) → n + 1 ≡ m → x ≡ a → (n ≡ 0) ⊎ (b ≡ a + 1) → range_with_len a m ≡ x ∷ range_with_len b n
+    step a m b n x e f h =
+        ap (range_with_len a) (sym e ∙ add-one n) ∙ ap (λ y. y ∷ range_with_len (a + 1) n) (sym f)
+        ∙ ⊎_elim (λ none. ap (λ j. x ∷ range_with_len (a + 1) j) none ∙ ap (λ j. x ∷ range_with_len b j) (sym none)) (λ next. ap (λ j. x ∷ range_with_len j n) (sym next)) h
+
+pub one_to : (s : RangeInclusive ℕ) (n : ℕ) → range_inclusive_start s ≡ 1 → range_inclusive_end s ≡ n → range_inclusive_exhausted s ≡ false → YieldsList nat_range_inclusive_steps (λ x. x) s (range_with_len 1 n)
+one_to s n a b e =
+    let many : range_inclusive_left (λ x y. y - x) s ≡ n = (λ i. range_inclusive_len (λ x y. y - x) (a i) (b i) (e i)) ∙ omega arith in
+    subst (YieldsList nat_range_inclusive_steps (λ x. x) s) (λ i. range_with_len (a i) (many i)) (inclusive_gives s)
+
+pub lowest_find : (bad : ℕ → Bool) (n k : ℕ) → find bad (range_with_len k n) ≡ first_from bad n k
+lowest_find bad zero k = refl
+lowest_find bad (suc n) k = ap (cond (bad k) (Some k)) (lowest_find bad n (k + 1))

@@ -17,10 +17,5 @@ fn row_weight(table: &Table, k: usize) -> u32
 pub(crate) fn unbalanced_row(table: &Table) -> Option<usize>
     ensures { result ≡ lowest (unbalanced table.now) table.now.rows }
 {
-    for i in 0..table.rows {
-        if row_weight(table, i + 1) != table.total {
-            return Some(i + 1);
-        }
-    }
-    None
+    (1..=table.rows).find(|k| row_weight(table, *k) != table.total)
 }
