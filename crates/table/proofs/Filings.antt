@@ -1,7 +1,8 @@
 -- Lines that are filed, and lists of what they say. Assumes nothing.
-use Rattle.std.proofs.Common.{◌≡◌, ℕ, ◌+◌, ◌-◌, ◌^◌, ◌<◌, ◌≤◌, Bool, true, not, ◌&&◌, leb, List, [], ◌∷◌, map, length, get_or, set, replicate, pos, nat_abs, Some, None, Ok, Err, Option, Result, sym, refl, ap, ◌∙◌, subst, ⊎_elim, arith}
-use Rattle.std.proofs.lemmas.List.{get_or-set_same, get_or-set_other, length-set, length-map, get_or-map, get_or_past, get_or-replicate}
-use Rattle.std.proofs.lemmas.Bool.{cases_eq, cases_lt, and_parts, and_from, leb-true, le-leb, not-false}
+use Rattle.std.proofs.Common.{◌≡◌, ℕ, ◌+◌, ◌-◌, ◌^◌, ◌<◌, Bool, true, not, ◌&&◌, leb, List, [], ◌∷◌, map, length, get_or, nat_abs, Some, None, Ok, Err, Option, Result, sym, refl, ap, ◌∙◌, subst, ⊎_elim, arith}
+use Rattle.std.proofs.lemmas.List.{length-map, get_or-map, get_or_past}
+use Rattle.std.proofs.lemmas.Bool.{cases_lt, and_parts, and_from, leb-true, le-leb, not-false}
+use Rattle.std.specs.Result.{IsErrAnd}
 use Rattle.rankings.specs.Costs.{Cost, zero}
 use Rattle.table.specs.declared.filing.FiledLine.{FiledLine}
 use Rattle.table.specs.declared.table.Table.{Table}
@@ -17,56 +18,19 @@ use Rattle.table.specs.declared.page.Page.{Page}
 use Rattle.table.specs.declared.sound.SoundTable.{SoundTable}
 use Rattle.table.specs.Ranges.{Within, FirstsIn, FigureIn, FiguresIn}
 use Rattle.table.specs.Sound.{Sound}
-use Rattle.table.specs.Filing.{filed_rows, filed_floors, filed_ceilings, is_figure, outsized, Copies, or_part, filing_fault, Filed, FilingKept, FilingTells}
+use Rattle.table.specs.Filing.{no_line, filed_rows, filed_floors, filed_ceilings, is_figure, outsized, Copies, or_part, filing_fault, Filed, FilingKept, FilingTells}
 use Rattle.table.proofs.Keeping.{row_in, none_planned, planned_none, none_low, low_none, none_high, high_none, later_none, some≢none}
 use Rattle.table.proofs.Searches.{none_found}
 use Rattle.table.proofs.Soundness.{search_none, sound_table}
 
--- what stands for a line past the end of a list
-abbrev pub line0 : FiledLine
-line0 = record { row = 0; floor = (pos 0, pos 0); ceiling = (pos 0, pos 0) }
-
 -- what the line at an index says, which is that of the grade one higher
-pub outsized_at : (ls : List FiledLine) (i : ℕ) (l : FiledLine) → i < length ls → l ≡ get_or ls i line0 → outsized ls (i + 1) ≡ not (is_figure l.floor && is_figure l.ceiling)
+pub outsized_at : (ls : List FiledLine) (i : ℕ) (l : FiledLine) → i < length ls → l ≡ get_or ls i no_line → outsized ls (i + 1) ≡ not (is_figure l.floor && is_figure l.ceiling)
 outsized_at ls i l h e =
     let same : i + 1 - 1 ≡ i = omega arith in
-    let low : get_or (filed_floors ls) i zero ≡ l.floor = get_or-map (λ x. x.floor) ls i line0 zero h ∙ ap (λ x. x.floor) (sym e) in
-    let high : get_or (filed_ceilings ls) i zero ≡ l.ceiling = get_or-map (λ x. x.ceiling) ls i line0 zero h ∙ ap (λ x. x.ceiling) (sym e) in
+    let low : get_or (filed_floors ls) i zero ≡ l.floor = get_or-map (λ x. x.floor) ls i no_line zero h ∙ ap (λ x. x.floor) (sym e) in
+    let high : get_or (filed_ceilings ls) i zero ≡ l.ceiling = get_or-map (λ x. x.ceiling) ls i no_line zero h ∙ ap (λ x. x.ceiling) (sym e) in
     (λ j. not (is_figure (get_or (filed_floors ls) (same j) zero) && is_figure (get_or (filed_ceilings ls) (same j) zero)))
     ∙ (λ j. not (is_figure (low j) && is_figure (high j)))
-
-module _ {A : Type 0} (f : FiledLine → A) (d : A) (ls : List FiledLine) where
-  -- a list of 32 into which the first n lines have been copied
-  pub record Copying (n : ℕ) (xs : List A) : Type 0 where
-    pub long : length xs ≡ 32
-    pub done : (i : ℕ) → i < n → get_or xs i d ≡ f (get_or ls i line0)
-    pub left : (i : ℕ) → n ≤ i → get_or xs i d ≡ d
-
-  pub copy_none : Copying 0 (replicate 32 d)
-  copy_none = record {
-    long = refl;
-    done = λ i h. absurd (omega arith);
-    left = λ i h. ⊎_elim (λ lt. get_or-replicate 32 i d d lt) (λ ge. get_or_past (replicate 32 d) i d ge) (cases_lt i 32);
-  }
-
-  pub copy_more : (n : ℕ) (xs : List A) (x : A) → n < 32 → x ≡ f (get_or ls n line0) → Copying n xs → Copying (n + 1) (set xs n x)
-  copy_more n xs x h e c = record {
-    long = length-set xs n x ∙ c.long;
-    done = λ i lt. ⊎_elim
-        (λ same. subst (λ j. get_or (set xs n x) j d ≡ f (get_or ls j line0)) (sym same) (get_or-set_same xs n x d (omega (arith, c.long)) ∙ e))
-        (λ apart. get_or-set_other xs n i x d apart ∙ c.done i (omega (arith, apart)))
-        (cases_eq i n);
-    left = λ i ge. get_or-set_other xs n i x d (λ same. omega arith) ∙ c.left i (omega arith);
-  }
-
-  pub copy_all : (n : ℕ) (xs : List A) → n ≡ length ls → Copying n xs → Copies f d ls xs
-  copy_all n xs e c = (
-    c.long,
-    λ i. ⊎_elim
-        (λ lt. c.done i (omega arith) ∙ sym (get_or-map f ls i line0 d lt))
-        (λ ge. c.left i (omega arith) ∙ sym (get_or_past (map f ls) i d (omega (arith, length-map ls f))))
-        (cases_lt i (length ls)),
-  )
 
 -- the lists that the lines were copied into are read as the lines are
 module _ (le : Cost → Cost → Bool) (t : Table) (ls : List FiledLine) (rows : List ℕ) (copied : Copies (λ l. l.row) 0 ls rows) where
@@ -90,25 +54,48 @@ module _ (le : Cost → Cost → Bool) (t : Table) (ls : List FiledLine) (floors
   pub floor_same : first_floor le t floors ≡ first_floor le t (filed_floors ls)
   floor_same = λ j. first_pair (breaks_floor le t (floors_same j)) (rows_of t) t.grades 1
 
--- the first fault, by what the searches find
+-- the first fault, by what each check answers
+later_some : (o : Option (ℕ × ℕ)) (at : ℕ → ℕ → FiguresFault) (later : Option FiguresFault) (e : FiguresFault) → Some e ≡ or_later o at None → or_later o at later ≡ Some e
+later_some (Some p) at later e is = sym is
+later_some None at later e is = absurd (some≢none e is)
+
+part_some : (o : Option ℕ) (later : Option FiguresFault) (e : FiguresFault) → Some e ≡ or_part o None → or_part o later ≡ Some e
+part_some (Some g) later e is = sym is
+part_some None later e is = absurd (some≢none e is)
+
+pub part_none : (o : Option ℕ) (later : Option FiguresFault) → or_part o later ≡ None → (o ≡ None) × (later ≡ None)
+part_none (Some g) later e = absurd (some≢none (Part g) e)
+part_none None later e = (refl, e)
+
 module _ (le : Cost → Cost → Bool) (t : Table) (ls : List FiledLine) where
-  pub fault_stray : (p : ℕ × ℕ) → first_stray t (filed_rows ls) ≡ Some p → filing_fault le t ls ≡ Some (PlanRow p.0 p.1)
-  fault_stray p e = ap (λ o. or_later o PlanRow (or_part (lowest (outsized ls) t.grades) (or_later (first_floor le t (filed_floors ls)) Floor (or_later (first_ceiling le t (filed_rows ls) (filed_ceilings ls)) Ceiling None)))) e
+  pub fault_stray : (e : FiguresFault) → Some e ≡ or_later (first_stray t (filed_rows ls)) PlanRow None → filing_fault le t ls ≡ Some e
+  fault_stray e is = later_some (first_stray t (filed_rows ls)) PlanRow _ e is
 
   module _ (a : first_stray t (filed_rows ls) ≡ None) where
-    pub fault_part : (g : ℕ) → lowest (outsized ls) t.grades ≡ Some g → filing_fault le t ls ≡ Some (Part g)
-    fault_part g e = λ j. or_later (a j) PlanRow (or_part (e j) (or_later (first_floor le t (filed_floors ls)) Floor (or_later (first_ceiling le t (filed_rows ls) (filed_ceilings ls)) Ceiling None)))
+    pub fault_part : (e : FiguresFault) → Some e ≡ or_part (lowest (outsized ls) t.grades) None → filing_fault le t ls ≡ Some e
+    fault_part e is = ap (λ o. or_later o PlanRow (or_part (lowest (outsized ls) t.grades) (or_later (first_floor le t (filed_floors ls)) Floor (or_later (first_ceiling le t (filed_rows ls) (filed_ceilings ls)) Ceiling None)))) a ∙ part_some (lowest (outsized ls) t.grades) _ e is
 
     module _ (b : lowest (outsized ls) t.grades ≡ None) where
-      pub fault_floor : (p : ℕ × ℕ) → first_floor le t (filed_floors ls) ≡ Some p → filing_fault le t ls ≡ Some (Floor p.0 p.1)
-      fault_floor p e = λ j. or_later (a j) PlanRow (or_part (b j) (or_later (e j) Floor (or_later (first_ceiling le t (filed_rows ls) (filed_ceilings ls)) Ceiling None)))
+      passed : filing_fault le t ls ≡ or_later (first_floor le t (filed_floors ls)) Floor (or_later (first_ceiling le t (filed_rows ls) (filed_ceilings ls)) Ceiling None)
+      passed = λ j. or_later (a j) PlanRow (or_part (b j) (or_later (first_floor le t (filed_floors ls)) Floor (or_later (first_ceiling le t (filed_rows ls) (filed_ceilings ls)) Ceiling None)))
+
+      pub fault_floor : (e : FiguresFault) → Some e ≡ or_later (first_floor le t (filed_floors ls)) Floor None → filing_fault le t ls ≡ Some e
+      fault_floor e is = passed ∙ later_some (first_floor le t (filed_floors ls)) Floor _ e is
 
       module _ (d : first_floor le t (filed_floors ls) ≡ None) where
-        pub fault_ceiling : (p : ℕ × ℕ) → first_ceiling le t (filed_rows ls) (filed_ceilings ls) ≡ Some p → filing_fault le t ls ≡ Some (Ceiling p.0 p.1)
-        fault_ceiling p e = λ j. or_later (a j) PlanRow (or_part (b j) (or_later (d j) Floor (or_later (e j) Ceiling None)))
+        low : filing_fault le t ls ≡ or_later (first_ceiling le t (filed_rows ls) (filed_ceilings ls)) Ceiling None
+        low = passed ∙ ap (λ o. or_later o Floor (or_later (first_ceiling le t (filed_rows ls) (filed_ceilings ls)) Ceiling None)) d
+
+        pub fault_ceiling : (e : FiguresFault) → Some e ≡ or_later (first_ceiling le t (filed_rows ls) (filed_ceilings ls)) Ceiling None → filing_fault le t ls ≡ Some e
+        fault_ceiling e is = low ∙ sym is
 
         pub fault_none : first_ceiling le t (filed_rows ls) (filed_ceilings ls) ≡ None → filing_fault le t ls ≡ None
-        fault_none e = λ j. or_later (a j) PlanRow (or_part (b j) (or_later (d j) Floor (or_later (e j) Ceiling None)))
+        fault_none e = low ∙ ap (λ o. or_later o Ceiling None) e
+
+-- a refusal that `?` hands on
+pub filed_refused : (le : Cost → Cost → Bool) (s : SoundTable) (ls : List FiledLine) (e : FiguresFault) (r : Result Page FilingFault) → IsErrAnd r (λ x. x ≡ fault.Figures e) → length ls ≡ s.table.grades → filing_fault le s.table ls ≡ Some e → Filed le s ls r
+filed_refused le s ls e (Ok p) is long f = absurd is
+filed_refused le s ls e (Err x) is long f = subst (λ x. Filed le s ls (Err x)) (sym is) (long, f)
 
 -- the test of a figure's parts is that they are in range
 figure_test : (w : Cost) → is_figure w ≡ true → FigureIn w
@@ -159,10 +146,6 @@ module _ (le : Cost → Cost → Bool) (t : Table) (s : Sound t) (ls : List File
         ceilings_in = λ g h. (ranged g h).1;
         kept = record { planned = p; low = none_low le t s (filed_floors ls) c.0; high = none_high le t s (filed_rows ls) (filed_ceilings ls) p d.0 };
       }
-    where
-      part_none : (o : Option ℕ) (later : Option FiguresFault) → or_part o later ≡ None → (o ≡ None) × (later ≡ None)
-      part_none (Some g) later e = absurd (some≢none (Part g) e)
-      part_none None later e = (refl, e)
 
   filing_none : FilingKept le t ls → filing_fault le t ls ≡ None
   filing_none k =

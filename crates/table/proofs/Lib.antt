@@ -11,4 +11,5 @@ pub mod Pigeons
 pub mod Ends
 pub mod Soundness
 pub mod Keeping
+pub mod Copied
 pub mod Filings

@@ -1,5 +1,5 @@
 -- Lines of plan row, floor and ceiling that somebody files: their rules, and the first one that they break. Assumes nothing.
-use Rattle.std.specs.Prelude.{◌≡◌, ℕ, ◌^◌, Bool, not, ◌&&◌, List, map, length, Some, None, Ok, Err, Option, Result, nat_le, slice_index_or, unsigned_abs}
+use Rattle.std.specs.Prelude.{◌≡◌, ℕ, ◌^◌, Bool, not, ◌&&◌, List, map, length, Some, None, Ok, Err, Option, Result, nat_le, pos, slice_index_or, unsigned_abs}
 use Rattle.rankings.specs.Costs.{Cost}
 use Rattle.table.specs.declared.fault.FiguresFault.{FiguresFault}
 use Rattle.table.specs.declared.fault.FiguresFault.TheVariants.{PlanRow, Part, Floor, Ceiling}
@@ -25,6 +25,10 @@ filed_floors = map (λ l. l.floor)
 
 abbrev pub filed_ceilings : List FiledLine → List Cost
 filed_ceilings = map (λ l. l.ceiling)
+
+-- what stands for a line past the end of a list
+abbrev pub no_line : FiledLine
+no_line = record { row = 0; floor = (pos 0, pos 0); ceiling = (pos 0, pos 0) }
 
 -- whether each part of a figure is in range
 abbrev pub is_figure : Cost → Bool

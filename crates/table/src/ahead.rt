@@ -44,13 +44,3 @@ pub fn lookahead(sound: &SoundTable, k: usize, figures: &Column) -> Option<(i64,
     let later = scale(table.numerator, weighted_sum(sound, k, figures));
     Some(add(now, later))
 }
-
-/// b · D times the figure of the grade g, as it is compared with X.
-pub(crate) fn scaled_figure(sound: &SoundTable, g: usize, figures: &Column) -> (i64, i64)
-    requires { Within 1 sound.now.table.grades g }
-    ensures is { result ≡ times (scaling sound.now.table) (figure_at figures.now.at g) }
-    ensures modest { Modest result }
-{
-    let scaling = sound.table.denominator * sound.table.total;
-    scale(scaling, figures.at[g - 1])
-}

@@ -1,3 +1,6 @@
+ghost use Rattle.std.specs.Prelude.{◌≡◌};
+ghost use Rattle.table.specs.declared.fault.FilingFault.TheVariants as FilingFault;
+
 /// What is wrong with a table, and the lowest row or arc where it is: layer 2.
 #[derive(Clone, Copy, Debug, PartialEq, Eq)]
 pub enum TableFault {
@@ -33,4 +36,12 @@ pub enum FilingFault {
     Lines,
     /// 9, 17, 10, 11, layer 3: the first rule that the lines break.
     Figures(FiguresFault),
+}
+
+impl From<FiguresFault> for FilingFault {
+    ghost from_gives = { λ fault filed. filed ≡ FilingFault.Figures fault };
+
+    fn from(fault: FiguresFault) -> Self {
+        FilingFault::Figures(fault)
+    }
 }

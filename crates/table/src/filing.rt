@@ -1,17 +1,19 @@
-ghost use Rattle.std.specs.Prelude.{◌≡◌, ◌≤◌, ◌&&◌, length};
+ghost use Rattle.std.specs.Prelude.{◌≡◌, ◌≤◌, ◌&&◌, length, None, slice_index_or};
+ghost use Rattle.std.specs.Result.{result_err};
 ghost use Rattle.rankings.specs.Costs.{zero};
 ghost use Rattle.table.specs.Faults.{lowest};
 ghost use Rattle.table.specs.Ranges.{FigureIn};
-ghost use Rattle.table.specs.Filing.{is_figure, outsized, Copies, Filed, FilingTells};
+ghost use Rattle.table.specs.Filing.{is_figure, no_line, outsized, or_part, Copies, Filed, FilingTells};
 
 use crate::column::Column;
 use crate::fault::{FiguresFault, FilingFault};
 use crate::figures::Figures;
 use crate::limits::{MAX_FIGURE_PART, MAX_GRADES};
 use crate::page::Page;
-use crate::rules::{first_broken_ceiling, first_broken_floor, first_stray};
+use crate::rules::{check_ceilings, check_floors, check_plan};
 use crate::sound::SoundTable;
 use rankings::Ranking;
+use std::array;
 
 /// What somebody files for a grade: a plan row, a floor and a ceiling. Nothing is known of its numbers.
 #[derive(Clone, Copy, Debug, PartialEq, Eq)]
@@ -30,23 +32,33 @@ fn is_figure(figure: (i64, i64)) -> bool
     first.unsigned_abs() <= most && second.unsigned_abs() <= most
 }
 
-/// Whether each part of the line's floor and ceiling is in range.
-fn in_range(line: FiledLine) -> bool
-    ensures { result ≡ (is_figure line.floor && is_figure line.ceiling) }
-{
-    is_figure(line.floor) && is_figure(line.ceiling)
+impl FiledLine {
+    /// Whether each part of the line's floor and ceiling is in range.
+    fn in_range(&self) -> bool
+        ensures { result ≡ (is_figure self.now.floor && is_figure self.now.ceiling) }
+    {
+        is_figure(self.floor) && is_figure(self.ceiling)
+    }
 }
 
-/// The first grade with a part of its floor or ceiling out of range.
-fn first_outsized(lines: &[FiledLine]) -> Option<usize>
-    ensures { result ≡ lowest (outsized lines.now) (length lines.now) }
+/// Refuses the first grade with a part of its floor or ceiling out of range.
+fn check_ranges(lines: &[FiledLine]) -> Result<(), FiguresFault>
+    ensures { result_err result ≡ or_part (lowest (outsized lines.now) (length lines.now)) None }
 {
-    for i in 0..lines.len() {
-        if !in_range(lines[i]) {
-            return Some(i + 1);
-        }
-    }
-    None
+    let outsized = lines.iter().position(|line| !line.in_range());
+    outsized.map_or(Ok(()), |i| Err(FiguresFault::Part { grade: i + 1 }))
+}
+
+/// The line at an index, and one that says nothing past the end.
+fn line_at(lines: &[FiledLine], i: usize) -> FiledLine
+    ensures { result ≡ slice_index_or lines.now i no_line }
+{
+    let none = FiledLine {
+        row: 0,
+        floor: (0, 0),
+        ceiling: (0, 0),
+    };
+    lines.get(i).copied().unwrap_or(none)
 }
 
 /// The plan rows, the floors and the ceilings of the lines.
@@ -62,19 +74,9 @@ fn columns(
     ensures floors { Copies (λ l. l.floor) zero lines.now result.1 }
     ensures ceilings { Copies (λ l. l.ceiling) zero lines.now result.2 }
 {
-    let mut rows = [0; MAX_GRADES];
-    let mut floors = [(0, 0); MAX_GRADES];
-    let mut ceilings = [(0, 0); MAX_GRADES];
-    for i in 0..lines.len() {
-        let FiledLine {
-            row,
-            floor,
-            ceiling,
-        } = lines[i];
-        rows[i] = row;
-        floors[i] = floor;
-        ceilings[i] = ceiling;
-    }
+    let rows = array::from_fn(|i| line_at(lines, i).row);
+    let floors = array::from_fn(|i| line_at(lines, i).floor);
+    let ceilings = array::from_fn(|i| line_at(lines, i).ceiling);
     (rows, floors, ceilings)
 }
 
@@ -90,30 +92,12 @@ fn filed_page<R: Ranking>(
         return Err(FilingFault::Lines);
     }
     let (row, floors, ceilings) = columns(lines);
-    match first_stray(&sound.table, &row) {
-        Some((grade, row)) => return Err(FilingFault::Figures(FiguresFault::PlanRow {
-            grade,
-            row,
-        })),
-        None => {}
-    }
-    match first_outsized(lines) {
-        Some(grade) => return Err(FilingFault::Figures(FiguresFault::Part { grade })),
-        None => {}
-    }
+    check_plan(sound, &row)?;
+    check_ranges(lines)?;
     let floor = Column { at: floors };
-    match first_broken_floor(ranking, sound, &floor) {
-        Some((grade, row)) => return Err(FilingFault::Figures(FiguresFault::Floor { grade, row })),
-        None => {}
-    }
+    check_floors(ranking, sound, &floor)?;
     let ceiling = Column { at: ceilings };
-    match first_broken_ceiling(ranking, sound, &row, &ceiling) {
-        Some((grade, row)) => return Err(FilingFault::Figures(FiguresFault::Ceiling {
-            grade,
-            row,
-        })),
-        None => {}
-    }
+    check_ceilings(ranking, sound, &row, &ceiling)?;
     let figures = Figures {
         row,
         floor,

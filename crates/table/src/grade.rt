@@ -1,11 +1,16 @@
-ghost use Rattle.std.specs.Prelude.{◌≡◌, ◌+◌, ◌-◌, MatchOption};
+ghost use Rattle.std.specs.Prelude.{◌≡◌, ◌+◌, ◌-◌, length, MatchOption};
 ghost use Rattle.rankings.specs.Costs.{Modest, times};
-ghost use Rattle.table.specs.Ranges.{Within};
+ghost use Rattle.table.specs.Ranges.{Within, row0};
+ghost use Rattle.table.specs.Walks.{ahead, AllIn};
+ghost use Rattle.table.specs.Chains.{rows_of};
 ghost use Rattle.table.specs.Lookahead.{figure_at, scaling};
+ghost use Rattle.table.specs.Rules.{has};
 ghost use Rattle.std.specs.Iterator.{at_most};
 
 use crate::column::Column;
+use crate::rows::Row;
 use crate::sound::SoundTable;
+use crate::walk::Walk;
 use rankings::scale;
 
 /// A grade of a sound table.
@@ -16,7 +21,23 @@ pub struct Grade<'a> {
     ghost among: { Within 1 sound.now.table.grades number },
 }
 
-impl Grade<'_> {
+impl<'a> Grade<'a> {
+    /// The grade's rows, in chain order.
+    pub fn rows(self) -> Walk<'a, Row>
+        ensures is { ahead (λ r. r.next) row0 result ≡ rows_of self.entry.sound.now.table self.entry.number }
+        ensures within { AllIn self.entry.sound.now.table.rows (rows_of self.entry.sound.now.table self.entry.number) }
+        ensures can { AllIn (length result.links.now) (ahead (λ r. r.next) row0 result) }
+    {
+        self.sound.table.rows_of(self.number)
+    }
+
+    /// Whether k is one of the grade's rows.
+    pub(crate) fn has_row(self, k: usize) -> bool
+        ensures { result ≡ has k (rows_of self.entry.sound.now.table self.entry.number) }
+    {
+        self.rows().any(|row| row == k)
+    }
+
     /// The grade's figure.
     pub fn figure(self, figures: &Column) -> (i64, i64)
         ensures { result ≡ figure_at figures.now.at self.entry.number }

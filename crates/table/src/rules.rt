@@ -1,140 +1,108 @@
-ghost use Rattle.std.specs.Prelude.{◌≡◌, Bool};
-ghost use Rattle.table.specs.Ranges.{Within};
-ghost use Rattle.table.specs.Chains.{rows_of};
+ghost use Rattle.std.specs.Prelude.{◌≡◌, None};
+ghost use Rattle.std.specs.Result.{result_err};
 ghost use Rattle.table.specs.Lookahead.{figure_at, lookahead_of};
 ghost use Rattle.table.specs.Kept.{Tells};
-ghost use Rattle.table.specs.Rules.{has, keeps_floor, keeps_ceiling, first_stray, first_floor, first_ceiling, figures_fault};
+ghost use Rattle.table.specs.Rules.{keeps_floor, keeps_ceiling, first_stray, first_floor, first_ceiling, or_later, figures_fault};
+ghost use Rattle.table.specs.declared.fault.FiguresFault.TheVariants.{PlanRow, Floor, Ceiling};
 
-use crate::ahead::{lookahead, scaled_figure};
+use crate::ahead::lookahead;
 use crate::column::Column;
 use crate::fault::FiguresFault;
 use crate::figures::Figures;
+use crate::grade::Grade;
 use crate::limits::MAX_GRADES;
 use crate::sound::SoundTable;
-use crate::table::Table;
 use rankings::Ranking;
 
-/// Whether k is one of the rows of the grade g.
-fn has_row(table: &Table, g: usize, k: usize) -> bool
-    requires { Within 1 table.now.grades g }
-    ensures { result ≡ has k (rows_of table.now g) }
+/// Whether the grade's floor keeps to what the row k allows.
+fn keeps_floor<R: Ranking>(ranking: &R, grade: Grade<'_>, floors: &Column, k: usize) -> bool
+    ensures { result ≡ keeps_floor (R.ranks ranking.now) grade.entry.sound.now.table (figure_at floors.now.at) grade.entry.number (lookahead_of grade.entry.sound.now.table k (figure_at floors.now.at)) }
 {
-    table.rows_of(g).any(|row| row == k)
-}
-
-/// Whether the floor of the grade g keeps to what the row k allows.
-fn keeps_floor<R: Ranking>(
-    ranking: &R,
-    sound: &SoundTable,
-    floors: &Column,
-    g: usize,
-    k: usize,
-) -> bool
-    requires { Within 1 sound.now.table.grades g }
-    ensures { result ≡ keeps_floor (R.ranks ranking.now) sound.now.table (figure_at floors.now.at) g (lookahead_of sound.now.table k (figure_at floors.now.at)) }
-{
-    match lookahead(sound, k, floors) {
-        Some(x) => ranking.no_dearer(scaled_figure(sound, g, floors), x),
+    match lookahead(grade.sound, k, floors) {
+        Some(x) => ranking.no_dearer(grade.scaled_figure(floors), x),
         None => false,
     }
 }
 
-/// Whether the ceiling of the grade g covers what the row k needs.
-fn keeps_ceiling<R: Ranking>(
-    ranking: &R,
-    sound: &SoundTable,
-    ceilings: &Column,
-    g: usize,
-    k: usize,
-) -> bool
-    requires { Within 1 sound.now.table.grades g }
-    ensures { result ≡ keeps_ceiling (R.ranks ranking.now) sound.now.table (figure_at ceilings.now.at) g (lookahead_of sound.now.table k (figure_at ceilings.now.at)) }
+/// Whether the grade's ceiling covers what the row k needs.
+fn keeps_ceiling<R: Ranking>(ranking: &R, grade: Grade<'_>, ceilings: &Column, k: usize) -> bool
+    ensures { result ≡ keeps_ceiling (R.ranks ranking.now) grade.entry.sound.now.table (figure_at ceilings.now.at) grade.entry.number (lookahead_of grade.entry.sound.now.table k (figure_at ceilings.now.at)) }
 {
-    match lookahead(sound, k, ceilings) {
-        Some(x) => ranking.no_dearer(x, scaled_figure(sound, g, ceilings)),
+    match lookahead(grade.sound, k, ceilings) {
+        Some(x) => ranking.no_dearer(x, grade.scaled_figure(ceilings)),
         None => false,
     }
 }
 
-/// The first grade whose plan row is not one of its rows, and that row.
-pub(crate) fn first_stray(table: &Table, rows: &[usize; MAX_GRADES]) -> Option<(usize, usize)>
-    ensures { result ≡ first_stray table.now rows.now }
+/// Refuses the first plan row that is not one of its grade's rows.
+pub(crate) fn check_plan(sound: &SoundTable, rows: &[usize; MAX_GRADES]) -> Result<(), FiguresFault>
+    ensures { result_err result ≡ or_later (first_stray sound.now.table rows.now) PlanRow None }
 {
-    for i in 0..table.grades {
-        if !has_row(table, i + 1, rows[i]) {
-            return Some((i + 1, rows[i]));
+    for grade in sound.grades() {
+        let row = rows[grade.number - 1];
+        if !grade.has_row(row) {
+            return Err(FiguresFault::PlanRow {
+                grade: grade.number,
+                row,
+            });
         }
     }
-    None
+    Ok(())
 }
 
-/// The first grade and row, in grade order and then chain order, at which a floor breaks its rule.
-pub(crate) fn first_broken_floor<R: Ranking>(
+/// Refuses the first floor that breaks its rule, in grade order and then chain order.
+pub(crate) fn check_floors<R: Ranking>(
     ranking: &R,
     sound: &SoundTable,
     floors: &Column,
-) -> Option<(usize, usize)>
-    ensures { result ≡ first_floor (R.ranks ranking.now) sound.now.table floors.now.at }
+) -> Result<(), FiguresFault>
+    ensures { result_err result ≡ or_later (first_floor (R.ranks ranking.now) sound.now.table floors.now.at) Floor None }
 {
-    let table = &sound.table;
-    let broken = 'check: {
-        for i in 0..table.grades {
-            let mut at = table.first_row[i];
-            for _turn in 0..table.rows {
-                if at == 0 {
-                    break;
+    let (grade, row) = 'check: {
+        for grade in sound.grades() {
+            for row in grade.rows() {
+                if !keeps_floor(ranking, grade, floors, row) {
+                    break 'check (grade.number, row);
                 }
-                if !keeps_floor(ranking, sound, floors, i + 1, at) {
-                    break 'check Some((i + 1, at));
-                }
-                at = table.row[at - 1].next;
             }
         }
-        None
+        return Ok(());
     };
-    broken
+    Err(FiguresFault::Floor { grade, row })
 }
 
-/// The first grade at which the ceiling breaks its rule, and its plan row.
-pub(crate) fn first_broken_ceiling<R: Ranking>(
+/// Refuses the first ceiling that breaks its rule at its grade's plan row.
+pub(crate) fn check_ceilings<R: Ranking>(
     ranking: &R,
     sound: &SoundTable,
     rows: &[usize; MAX_GRADES],
     ceilings: &Column,
-) -> Option<(usize, usize)>
-    ensures { result ≡ first_ceiling (R.ranks ranking.now) sound.now.table rows.now ceilings.now.at }
+) -> Result<(), FiguresFault>
+    ensures { result_err result ≡ or_later (first_ceiling (R.ranks ranking.now) sound.now.table rows.now ceilings.now.at) Ceiling None }
 {
-    for i in 0..sound.table.grades {
-        if !keeps_ceiling(ranking, sound, ceilings, i + 1, rows[i]) {
-            return Some((i + 1, rows[i]));
+    for grade in sound.grades() {
+        let row = rows[grade.number - 1];
+        if !keeps_ceiling(ranking, grade, ceilings, row) {
+            return Err(FiguresFault::Ceiling {
+                grade: grade.number,
+                row,
+            });
         }
     }
-    None
+    Ok(())
 }
 
-/// The first rule that the figures break: plan rows before floors before ceilings, each over all grades.
-fn broken_rule<R: Ranking>(
+/// Refuses the first rule that the figures break: plan rows before floors before ceilings, each over all grades.
+fn check_rules<R: Ranking>(
     ranking: &R,
     sound: &SoundTable,
     figures: &Figures,
-) -> Option<FiguresFault>
-    ensures { result ≡ figures_fault (R.ranks ranking.now) sound.now.table figures.now }
+) -> Result<(), FiguresFault>
+    ensures { result_err result ≡ figures_fault (R.ranks ranking.now) sound.now.table figures.now }
 {
-    if let Some((grade, row)) = first_stray(&sound.table, &figures.row) {
-        return Some(FiguresFault::PlanRow { grade, row });
-    }
-    if let Some((grade, row)) = first_broken_floor(ranking, sound, &figures.floor) {
-        return Some(FiguresFault::Floor { grade, row });
-    }
-    if let Some((grade, row)) = first_broken_ceiling(
-        ranking,
-        sound,
-        &figures.row,
-        &figures.ceiling,
-    ) {
-        return Some(FiguresFault::Ceiling { grade, row });
-    }
-    None
+    check_plan(sound, &figures.row)?;
+    check_floors(ranking, sound, &figures.floor)?;
+    check_ceilings(ranking, sound, &figures.row, &figures.ceiling)
 }
 
 /// The first rule that the figures break, and none exactly where they keep all of them.
@@ -146,5 +114,5 @@ pub fn first_broken<R: Ranking>(
     ensures is { result ≡ figures_fault (R.ranks ranking.now) sound.now.table figures.now }
     ensures kept { Tells (R.ranks ranking.now) sound.now.table figures.now result }
 {
-    broken_rule(ranking, sound, figures)
+    check_rules(ranking, sound, figures).err()
 }
