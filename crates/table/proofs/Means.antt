@@ -1,12 +1,11 @@
 -- A sum of weighted figures stays within what the weights allow. Assumes nothing.
-use Rattle.std.proofs.Common.{◌≡◌, ℕ, ◌+◌, ◌-◌, ◌*◌, ◌^◌, ◌<◌, ◌≤◌, List, nat_abs, ap, arith}
+use Rattle.std.proofs.Common.{◌≡◌, ℕ, ◌+◌, ◌-◌, ◌*◌, ◌^◌, ◌≤◌, List, ◌∷◌, nat_abs, refl, arith}
 use Rattle.rankings.specs.Costs.{Cost, Within, plus, times, zero}
 use Rattle.rankings.proofs.Sizes.{plus_within, times_within}
 use Rattle.table.specs.declared.table.Table.{Table}
-use Rattle.table.specs.Ranges.{FiguresIn}
-use Rattle.table.specs.Chains.{walk, next_arc, arc_at, weights}
+use Rattle.table.specs.Ranges.{Within as Between, FiguresIn}
+use Rattle.table.specs.Chains.{arc_at, weights}
 use Rattle.table.specs.Lookahead.{figure_at}
-use Rattle.table.proofs.Walks.{walk_in}
 
 -- with the weights that are left at the largest figure, a cost keeps to the whole weight at that figure
 pub record Budget (total left : ℕ) (c : Cost) : Type 0 where
@@ -25,13 +24,10 @@ budget_more total left weight rest c v b e h =
 pub budget_within : (total left : ℕ) (c : Cost) → Budget total left c → Within (total * 10 ^ 10) c
 budget_within total left c b = (omega (arith, b.first), omega (arith, b.second))
 
--- one arc more is added, at a place of a row's chain
-module _ (t : Table) (ws : List Cost) (within : FiguresIn ws) (turn at : ℕ) (more : turn < t.arcs) (lo : 0 < at) (hi : at ≤ t.arcs) where
-  pub figure_within : Within (10 ^ 10) (figure_at ws (arc_at t at).destination)
-  figure_within = let here = t.arcsin (at - 1) (omega arith) in within ((arc_at t at).destination - 1) (omega (arith, t.graded.1))
+-- one arc more is added
+module _ (t : Table) (ws : List Cost) (figures : FiguresIn ws) (x : ℕ) (here : Between 1 t.arcs x) where
+  pub figure_within : Within (10 ^ 10) (figure_at ws (arc_at t x).destination)
+  figure_within = let arc = t.arcsin (x - 1) (omega (arith, here.0, here.1)) in figures ((arc_at t x).destination - 1) (omega (arith, t.graded.1))
 
-  pub budget_step : (sum : Cost) → Budget t.total (weights t (walk (next_arc t) (t.arcs - turn) at)) sum →
-      Budget t.total (weights t (walk (next_arc t) (t.arcs - (turn + 1)) (next_arc t at))) (plus sum (times (arc_at t at).weight (figure_at ws (arc_at t at).destination)))
-  budget_step sum b =
-      budget_more t.total _ (arc_at t at).weight _ sum (figure_at ws (arc_at t at).destination) b
-      (ap (weights t) (walk_in (next_arc t) at (t.arcs - turn) (t.arcs - (turn + 1)) (omega arith) lo)) figure_within
+  pub budget_step : (sum : Cost) (xs : List ℕ) → Budget t.total (weights t (x ∷ xs)) sum → Budget t.total (weights t xs) (plus sum (times (arc_at t x).weight (figure_at ws (arc_at t x).destination)))
+  budget_step sum xs b = budget_more t.total _ (arc_at t x).weight _ sum (figure_at ws (arc_at t x).destination) b refl figure_within

@@ -16,14 +16,9 @@ fn weighted_sum(sound: &SoundTable, k: usize, figures: &Column) -> (i64, i64)
 {
     let table = &sound.table;
     let mut sum = (0, 0);
-    let mut at = table.row[k - 1].first_arc;
-    for _turn in 0..table.arcs {
-        if at == 0 {
-            break;
-        }
-        let arc = table.arc[at - 1];
+    for x in table.arcs_of(k) {
+        let arc = table.arc[x - 1];
         sum = add(sum, scale(arc.weight, figures.at[arc.destination - 1]));
-        at = arc.next;
     }
     sum
 }

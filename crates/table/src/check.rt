@@ -14,22 +14,12 @@ use crate::weights::unbalanced_row;
 pub fn first_fault(table: &Table) -> Option<TableFault>
     ensures { result ≡ table_fault table.now }
 {
-    if let Some(row) = mispointed_row(table) {
-        return Some(TableFault::RowPointers { row });
-    }
-    if let Some(row) = loose_row(table) {
-        return Some(TableFault::LooseRow { row });
-    }
-    if let Some(arc) = mispointed_arc(table) {
-        return Some(TableFault::ArcPointers { arc });
-    }
-    if let Some(arc) = loose_arc(table) {
-        return Some(TableFault::LooseArc { arc });
-    }
-    if let Some(row) = unbalanced_row(table) {
-        return Some(TableFault::Weights { row });
-    }
-    None
+    mispointed_row(table)
+        .map(|row| TableFault::RowPointers { row })
+        .or_else(|| loose_row(table).map(|row| TableFault::LooseRow { row }))
+        .or_else(|| mispointed_arc(table).map(|arc| TableFault::ArcPointers { arc }))
+        .or_else(|| loose_arc(table).map(|arc| TableFault::LooseArc { arc }))
+        .or_else(|| unbalanced_row(table).map(|row| TableFault::Weights { row }))
 }
 
 /// The table as one that has no fault, exactly where it is sound; or its first fault.

@@ -1,13 +1,9 @@
-use Rattle.std.proofs.Common.{◌≡◌, ◌*◌, Some, sym, ap, ◌∙◌, arith}
+use Rattle.std.proofs.Common.{◌*◌, arith}
 use Rattle.rankings.specs.Costs.{plus, times}
 use Rattle.table.specs.Chains.{row_at}
-use Rattle.table.specs.Lookahead.{scaling, figure_at, X}
-use Rattle.table.proofs.Magnitudes.{fine-≤, own_within, own_modest, later_within, later_modest, both_within, scaled_modest}
-use Rattle.table.proofs.Lookaheads.{ahead_some}
+use Rattle.table.specs.Lookahead.{scaling}
+use Rattle.table.proofs.Magnitudes.{own_within, own_modest, later_within, later_modest, both_within, scaled_modest}
 use Rattle.table.proofs.ahead.lookahead.Goals as goal
-
-pub overflow_mul-scaling-2 : goal.overflow_mul-scaling-2
-overflow_mul-scaling-2 c = omega (arith, fine-≤ c.args.sound.now.table)
 
 pub scale-now-requires : goal.scale-now-requires
 scale-now-requires c =
@@ -28,17 +24,10 @@ add-requires c =
     rw (c.scale-now.ensures.is, c.scale-later.ensures.is)
     (scaled_modest t (plus own later) (both_within t own later (own_within t k (omega arith, omega arith)) (later_within t c.weighted_sum.result c.weighted_sum.ensures.within)))
 
-pub returns : goal.returns
-returns c =
+pub returns-clause-within : goal.returns-clause-within
+returns-clause-within c =
     let t = c.args.sound.now.table in
     let k = c.args.k in
-    let w = figure_at c.args.figures.now.at in
     let own = times (t.fineness * scaling t) (row_at t k).cost in
     let later = times t.numerator c.weighted_sum.result in
-    let sum = c.add.ensures.is ∙ (λ i. plus (c.scale-now.ensures.is i) (c.scale-later.ensures.is i)) in
-    let is : c.add.result ≡ X t k w = sum ∙ ap (λ s. plus own (times t.numerator s)) c.weighted_sum.ensures.is in
-    record {
-      is = ap Some is ∙ sym (ahead_some t k w (omega arith, omega arith));
-      within = rw sum (both_within t own later (own_within t k (omega arith, omega arith)) (later_within t c.weighted_sum.result c.weighted_sum.ensures.within));
-      modest = c.add.ensures.modest;
-    }
+    rw (c.add.ensures.is, c.scale-now.ensures.is, c.scale-later.ensures.is) (both_within t own later (own_within t k (omega arith, omega arith)) (later_within t c.weighted_sum.result c.weighted_sum.ensures.within))

@@ -1,65 +1,59 @@
-use Rattle.std.proofs.Common.{◌≡◌, ◌+◌, ◌-◌, ◌*◌, ◌^◌, sym, ap, ◌∙◌, arith}
+use Rattle.std.proofs.Common.{◌≡◌, ◌-◌, ◌*◌, ◌^◌, sym, ap, subst, ◌∙◌, arith}
 use Rattle.rankings.specs.Costs.{plus, times}
-use Rattle.rankings.specs.Algebra.{plus_assoc, plus_zero, zero_plus}
+use Rattle.rankings.specs.Algebra.{plus_assoc, zero_plus}
 use Rattle.rankings.proofs.Sizes.{within_more, times_within}
-use Rattle.table.specs.Chains.{walk, next_arc, row_at, arc_at, arcs_of, weights}
+use Rattle.table.specs.Ranges.{arc0}
+use Rattle.table.specs.Chains.{arc_at, weights}
 use Rattle.table.specs.Lookahead.{figure_at, mean}
-use Rattle.table.proofs.Walks.{walk_in, walk_end}
+use Rattle.table.specs.Walks.{ahead, AllIn}
 use Rattle.table.proofs.Faultless.{balanced}
-use Rattle.table.proofs.Means.{budget_start, budget_within, budget_step, figure_within}
+use Rattle.table.proofs.Means.{Budget, budget_start, budget_within, budget_step, figure_within}
 use Rattle.table.proofs.ahead.weighted_sum.Goals as goal
 
-pub loop-turn-init : goal.loop-turn-init
-loop-turn-init c =
+pub loop-x-init : goal.loop-x-init
+loop-x-init c =
     let t = c.args.sound.now.table in
-    let k = c.args.k in
     let w = figure_at c.args.figures.now.at in
-    let whole : t.arcs ≡ t.arcs - 0 = omega arith in
-    let chain : arcs_of t k ≡ walk (next_arc t) (t.arcs - 0) (row_at t k).first_arc = ap (λ f. walk (next_arc t) f (row_at t k).first_arc) whole in (
-      (t.rowsin (k - 1) (omega arith)).1.1,
-      zero_plus _ ∙ ap (mean t w) (sym chain),
-      budget_start t.total _ (ap (weights t) (sym chain) ∙ balanced t c.args.sound.now.faultless k c.requires),
+    let is = ap (ahead (λ x. x.next) arc0) c.into_iter-x-iterator.ensures.into_iter_gives ∙ c.arcs_of-x-items.ensures.is in (
+      subst (AllIn t.arcs) (sym is) c.arcs_of-x-items.ensures.within,
+      zero_plus _ ∙ ap (mean t w) is,
+      budget_start t.total _ (ap (weights t) is ∙ balanced t c.args.sound.now.faultless c.args.k c.requires),
     )
 
 pub scale-requires : goal.scale-requires
 scale-requires c =
     let t = c.args.sound.now.table in
-    let at = c.loop-turn.at in
+    let x = c.in-Some.x in
     let ws = c.args.figures.now.at in
-    let here = t.arcsin (at - 1) (omega arith) in
-    within_more (1000 * 10 ^ 10) (10 ^ 16) (times (arc_at t at).weight (figure_at ws (arc_at t at).destination)) (omega arith)
-    (times_within (arc_at t at).weight 1000 (10 ^ 10) (figure_at ws (arc_at t at).destination) (omega (arith, t.weighed.1))
-    (figure_within t ws c.args.figures.now.within c.loop-turn._turn at (omega arith) (omega arith) (omega arith)))
+    let here = (subst (AllIn t.arcs) c.in-Some.ensures.steps c.loop-x.invariant.0).0 in
+    let arc = t.arcsin (x - 1) (omega (arith, here.0, here.1)) in
+    within_more (1000 * 10 ^ 10) (10 ^ 16) (times (arc_at t x).weight (figure_at ws (arc_at t x).destination)) (omega arith)
+    (times_within (arc_at t x).weight 1000 (10 ^ 10) (figure_at ws (arc_at t x).destination) (omega (arith, t.weighed.1))
+    (figure_within t ws c.args.figures.now.within x here))
 
 pub add-sum-requires : goal.add-sum-requires
 add-sum-requires c =
     let t = c.args.sound.now.table in
-    let next = budget_step t c.args.figures.now.at c.args.figures.now.within c.loop-turn._turn c.loop-turn.at (omega arith) (omega arith) (omega arith) c.loop-turn.sum c.loop-turn.invariant.2 in
-    rw c.scale.ensures.is (within_more (t.total * 10 ^ 10) (10 ^ 16) (plus c.loop-turn.sum (times (arc_at t c.loop-turn.at).weight (figure_at c.args.figures.now.at (arc_at t c.loop-turn.at).destination))) (omega (arith, t.weighed.1)) (budget_within t.total _ _ next))
+    let x = c.in-Some.x in
+    let ws = c.args.figures.now.at in
+    let here = (subst (AllIn t.arcs) c.in-Some.ensures.steps c.loop-x.invariant.0).0 in
+    let next = budget_step t ws c.args.figures.now.within x here c.loop-x.sum _ (subst (λ xs. Budget t.total (weights t xs) c.loop-x.sum) c.in-Some.ensures.steps c.loop-x.invariant.2) in
+    rw c.scale.ensures.is (within_more (t.total * 10 ^ 10) (10 ^ 16) (plus c.loop-x.sum (times (arc_at t x).weight (figure_at ws (arc_at t x).destination))) (omega (arith, t.weighed.1)) (budget_within t.total _ _ next))
 
-pub loop-turn-preserved : goal.loop-turn-preserved
-loop-turn-preserved c =
+pub loop-x-preserved : goal.loop-x-preserved
+loop-x-preserved c =
     let t = c.args.sound.now.table in
-    let at = c.loop-turn.at in
-    let turn = c.loop-turn._turn in
-    let w = figure_at c.args.figures.now.at in
-    let here = t.arcsin (at - 1) (omega arith) in
-    let rest = walk (next_arc t) (t.arcs - (turn + 1)) (next_arc t at) in
-    let step = walk_in (next_arc t) at (t.arcs - turn) (t.arcs - (turn + 1)) (omega arith) (omega arith) in (
-      here.0,
-      ap (λ s. plus s (mean t w rest)) (c.add-sum.ensures.is ∙ ap (plus c.loop-turn.sum) c.scale.ensures.is)
-          ∙ plus_assoc c.loop-turn.sum (times (arc_at t at).weight (w (arc_at t at).destination)) (mean t w rest)
-          ∙ ap (λ l. plus c.loop-turn.sum (mean t w l)) (sym step)
-          ∙ c.loop-turn.invariant.1,
-      rw (c.add-sum.ensures.is, c.scale.ensures.is) (budget_step t c.args.figures.now.at c.args.figures.now.within turn at (omega arith) (omega arith) (omega arith) c.loop-turn.sum c.loop-turn.invariant.2),
+    let x = c.in-Some.x in
+    let ws = c.args.figures.now.at in
+    let w = figure_at ws in
+    let rest = ahead (λ x. x.next) arc0 c.next.new.self in
+    let all = subst (AllIn t.arcs) c.in-Some.ensures.steps c.loop-x.invariant.0 in
+    let sum : c.add-sum.result ≡ plus c.loop-x.sum (times (arc_at t x).weight (w (arc_at t x).destination)) = c.add-sum.ensures.is ∙ ap (plus c.loop-x.sum) c.scale.ensures.is in (
+      all.1,
+      ap (λ s. plus s (mean t w rest)) sum
+          ∙ plus_assoc c.loop-x.sum (times (arc_at t x).weight (w (arc_at t x).destination)) (mean t w rest)
+          ∙ ap (λ l. plus c.loop-x.sum (mean t w l)) (sym c.in-Some.ensures.steps)
+          ∙ c.loop-x.invariant.1,
+      subst (Budget t.total (weights t rest)) (sym sum)
+          (budget_step t ws c.args.figures.now.within x all.0 c.loop-x.sum rest (subst (λ xs. Budget t.total (weights t xs) c.loop-x.sum) c.in-Some.ensures.steps c.loop-x.invariant.2)),
     )
-
-pub returns-then-at-eq0 : goal.returns-then-at-eq0
-returns-then-at-eq0 c =
-    let t = c.args.sound.now.table in
-    let w = figure_at c.args.figures.now.at in
-    let none = walk_end (next_arc t) c.loop-turn.at (t.arcs - c.loop-turn._turn) (omega arith) in
-    record {
-      is = sym (plus_zero c.loop-turn.sum) ∙ ap (λ l. plus c.loop-turn.sum (mean t w l)) (sym none) ∙ c.loop-turn.invariant.1;
-      within = budget_within t.total _ _ c.loop-turn.invariant.2;
-    }
