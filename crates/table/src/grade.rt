@@ -1,7 +1,7 @@
-ghost use Rattle.std.specs.Prelude.{◌≡◌, ◌+◌, ◌-◌, length, MatchOption};
+ghost use Rattle.std.specs.Prelude.{◌≡◌, ◌+◌, ◌-◌, MatchOption};
 ghost use Rattle.rankings.specs.Costs.{Modest, times};
-ghost use Rattle.table.specs.Ranges.{Within, row0};
-ghost use Rattle.table.specs.Walks.{ahead, AllIn};
+ghost use Rattle.table.specs.Ranges.{Within};
+ghost use Rattle.table.specs.Walks.{rows_ahead, Along};
 ghost use Rattle.table.specs.Chains.{rows_of};
 ghost use Rattle.table.specs.Lookahead.{figure_at, scaling};
 ghost use Rattle.table.specs.Rules.{has};
@@ -24,9 +24,7 @@ pub struct Grade<'a> {
 impl<'a> Grade<'a> {
     /// The grade's rows, in chain order.
     pub fn rows(self) -> Walk<'a, Row>
-        ensures is { ahead (λ r. r.next) row0 result ≡ rows_of self.entry.sound.now.table self.entry.number }
-        ensures within { AllIn self.entry.sound.now.table.rows (rows_of self.entry.sound.now.table self.entry.number) }
-        ensures can { AllIn (length result.links.now) (ahead (λ r. r.next) row0 result) }
+        ensures { Along rows_ahead self.entry.sound.now.table.rows (rows_of self.entry.sound.now.table self.entry.number) result }
     {
         self.sound.table.rows_of(self.number)
     }

@@ -1,7 +1,7 @@
 ghost use Rattle.std.specs.Prelude.{◌≡◌, ◌≤◌, ℕ, length};
 ghost use Rattle.std.specs.List.{All};
 ghost use Rattle.std.specs.Iterator.{YieldsFirst, item_count};
-ghost use Rattle.table.specs.Walks.{ahead, chain_from, AllIn};
+ghost use Rattle.table.specs.Walks.{ahead, chain_from, AllIn, rows_ahead, arcs_ahead, Along};
 ghost use Rattle.table.specs.Ranges.{Within, row0, arc0};
 ghost use Rattle.table.specs.Chains.{rows_of, arcs_of};
 
@@ -77,9 +77,7 @@ impl<'a, T: Linked> Walk<'a, T> {
     pub(crate) fn new(links: &'a [T], first: usize) -> Self
         requires start { first ≤ length links.now }
         requires linked { All (λ x. T.next_link x ≤ length links.now) links.now }
-        ensures is { ahead T.next_link T.none result ≡ chain_from T.next_link T.none links.now first }
-        ensures within { AllIn (length links.now) (chain_from T.next_link T.none links.now first) }
-        ensures can { AllIn (length result.links.now) (ahead T.next_link T.none result) }
+        ensures { Along (ahead T.next_link T.none) (length links.now) (chain_from T.next_link T.none links.now first) result }
     {
         let left = links.len();
         Walk {
@@ -114,9 +112,7 @@ impl Table {
     /// The rows of the grade g, in chain order.
     pub fn rows_of(&self, g: usize) -> Walk<'_, Row>
         requires { Within 1 self.now.grades g }
-        ensures is { ahead (λ r. r.next) row0 result ≡ rows_of self.now g }
-        ensures within { AllIn self.now.rows (rows_of self.now g) }
-        ensures can { AllIn (length result.links.now) (ahead (λ r. r.next) row0 result) }
+        ensures { Along rows_ahead self.now.rows (rows_of self.now g) result }
     {
         Walk::new(&self.row[..self.rows], self.first_row[g - 1])
     }
@@ -124,9 +120,7 @@ impl Table {
     /// The arcs of the row k, in chain order.
     pub fn arcs_of(&self, k: usize) -> Walk<'_, Arc>
         requires { Within 1 self.now.rows k }
-        ensures is { ahead (λ x. x.next) arc0 result ≡ arcs_of self.now k }
-        ensures within { AllIn self.now.arcs (arcs_of self.now k) }
-        ensures can { AllIn (length result.links.now) (ahead (λ x. x.next) arc0 result) }
+        ensures { Along arcs_ahead self.now.arcs (arcs_of self.now k) result }
     {
         Walk::new(&self.arc[..self.arcs], self.row[k - 1].first_arc)
     }

@@ -2,10 +2,9 @@ use Rattle.std.proofs.Common.{◌≡◌, ◌-◌, ◌*◌, ◌^◌, sym, ap, sub
 use Rattle.rankings.specs.Costs.{plus, times}
 use Rattle.rankings.specs.Algebra.{plus_assoc, zero_plus}
 use Rattle.rankings.proofs.Sizes.{within_more, times_within}
-use Rattle.table.specs.Ranges.{arc0}
 use Rattle.table.specs.Chains.{arc_at, weights}
 use Rattle.table.specs.Lookahead.{figure_at, mean}
-use Rattle.table.specs.Walks.{ahead, AllIn}
+use Rattle.table.specs.Walks.{AllIn, arcs_ahead}
 use Rattle.table.proofs.Faultless.{balanced}
 use Rattle.table.proofs.Means.{Budget, budget_start, budget_within, budget_step, figure_within}
 use Rattle.table.proofs.ahead.weighted_sum.Goals as goal
@@ -14,7 +13,7 @@ pub loop-x-init : goal.loop-x-init
 loop-x-init c =
     let t = c.args.sound.now.table in
     let w = figure_at c.args.figures.now.at in
-    let is = ap (ahead (λ x. x.next) arc0) c.into_iter-x-iterator.ensures.into_iter_gives ∙ c.arcs_of-x-items.ensures.is in (
+    let is = ap arcs_ahead c.into_iter-x-iterator.ensures.into_iter_gives ∙ c.arcs_of-x-items.ensures.is in (
       subst (AllIn t.arcs) (sym is) c.arcs_of-x-items.ensures.within,
       zero_plus _ ∙ ap (mean t w) is,
       budget_start t.total _ (ap (weights t) is ∙ balanced t c.args.sound.now.faultless c.args.k c.requires),
@@ -46,7 +45,7 @@ loop-x-preserved c =
     let x = c.in-Some.x in
     let ws = c.args.figures.now.at in
     let w = figure_at ws in
-    let rest = ahead (λ x. x.next) arc0 c.next.new.self in
+    let rest = arcs_ahead c.next.new.self in
     let all = subst (AllIn t.arcs) c.in-Some.ensures.steps c.loop-x.invariant.0 in
     let sum : c.add-sum.result ≡ plus c.loop-x.sum (times (arc_at t x).weight (w (arc_at t x).destination)) = c.add-sum.ensures.is ∙ ap (plus c.loop-x.sum) c.scale.ensures.is in (
       all.1,
