@@ -1,5 +1,5 @@
 -- A search through grades and their lists, step by step. Assumes nothing.
-use Rattle.std.proofs.Common.{◌≡◌, ℕ, zero, suc, ◌+◌, ◌-◌, ◌≤◌, Bool, true, false, List, [], ◌∷◌, Some, None, Option, sym, refl, ap, ◌∙◌, arith}
+use Rattle.std.proofs.Common.{◌≡◌, ℕ, zero, suc, ◌+◌, ◌-◌, ◌≤◌, Bool, true, false, List, [], ◌∷◌, Some, None, Option, sym, ap, ◌∙◌, arith}
 use Rattle.table.specs.declared.fault.FiguresFault.{FiguresFault}
 use Rattle.table.specs.Rules.{first_in, first_pair, or_later}
 
@@ -15,10 +15,6 @@ module _ (bad : ℕ → ℕ → Bool) where
     pair_in : (g n h : ℕ) → n ≡ h + 1 → first_pair bad list n g ≡ first_in bad g (list g) (first_pair bad list h (g + 1))
     pair_in g zero h e = absurd (omega arith)
     pair_in g (suc n) h e = let less : n ≡ h = omega arith in ap (λ j. first_in bad g (list g) (first_pair bad list j (g + 1))) less
-
-    pub pair_none : (g n : ℕ) → n ≡ 0 → first_pair bad list n g ≡ None
-    pair_none g zero e = refl
-    pair_none g (suc n) e = absurd (omega arith)
 
     -- of n grades some have passed, and the next is g
     module _ (n passed g : ℕ) (is : g ≡ passed + 1) (within : g ≤ n) where

@@ -18,10 +18,6 @@ module _ (bad : ℕ → Bool) (k : ℕ) where
   found_later zero h e b = absurd (omega arith)
   found_later (suc n) h e b = let less : n ≡ h = omega arith in simp (b, less)
 
-  pub found_none : (n : ℕ) → n ≡ 0 → first_from bad n k ≡ None
-  found_none zero e = refl
-  found_none (suc n) e = absurd (omega arith)
-
 -- two tests that agree on what is searched find the same
 pub same_search : (f g : ℕ → Bool) (n k : ℕ) → ((i : ℕ) → k ≤ i → i < k + n → f i ≡ g i) → first_from f n k ≡ first_from g n k
 same_search f g zero k h = refl

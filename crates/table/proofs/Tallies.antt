@@ -1,6 +1,6 @@
 -- Counts of the numbers of a list, one number more at a time. Assumes nothing.
-use Rattle.std.proofs.Common.{◌≡◌, ℕ, zero, suc, ◌+◌, ◌-◌, ◌<◌, ◌≤◌, cond, eqb, List, [], ◌∷◌, ◌++◌, map, length, get_or, take, set, replicate, sym, refl, ap, ◌∙◌, subst, append_assoc, ⊎_elim, add-zero, arith}
-use Rattle.std.proofs.lemmas.List.{length-set, length-append, length-map, length-take, map_more, get_or-replicate, get_or-set_same, get_or-set_other, get_or-take, length-take-le}
+use Rattle.std.proofs.Common.{◌≡◌, ℕ, zero, suc, ◌+◌, ◌-◌, ◌<◌, ◌≤◌, cond, eqb, List, [], ◌∷◌, ◌++◌, map, length, get_or, take, set, sym, refl, ap, ◌∙◌, subst, append_assoc, ⊎_elim, add-zero, arith}
+use Rattle.std.proofs.lemmas.List.{length-set, length-append, length-map, length-take, map_more, get_or-set_same, get_or-set_other, get_or-take, length-take-le}
 use Rattle.std.proofs.lemmas.Bool.{ne_eqb}
 use Rattle.std.proofs.lemmas.Bool.Decides.{eqb_tells, nat_tests}
 use Rattle.table.specs.Counts.{one_more}
@@ -25,9 +25,6 @@ length-one_more (suc j) cs = length-set cs j _
 -- the first n of the counts are those of the numbers of a list
 pub record Counted (n : ℕ) (cs xs : List ℕ) : Type 0 where
   pub at : (i : ℕ) → i < n → get_or cs i 0 ≡ count (i + 1) xs
-
-pub counted_none : (size n : ℕ) → n ≤ size → Counted n (replicate size 0) []
-counted_none size n h = record { at = λ i lt. get_or-replicate size i 0 0 (omega arith) }
 
 module _ {n : ℕ} {cs xs : List ℕ} (so : Counted n cs xs) where
   counted_at : (j : ℕ) → j < n → n ≤ length cs → Counted n (set cs j (get_or cs j 0 + 1)) (xs ++ suc j ∷ [])
