@@ -2,6 +2,7 @@
 #![tactic(auto)]
 
 mod ahead;
+mod chains;
 mod check;
 mod column;
 mod counts;
@@ -21,6 +22,7 @@ mod walk;
 mod weights;
 
 pub use ahead::lookahead;
+pub use chains::Linked;
 pub use check::{check_table, first_fault};
 pub use column::Column;
 pub use fault::{FiguresFault, FilingFault, TableFault};
@@ -36,4 +38,4 @@ pub use rows::{Arc, Row};
 pub use rules::first_broken;
 pub use sound::SoundTable;
 pub use table::Table;
-pub use walk::{Linked, Walk};
+pub use walk::Walk;

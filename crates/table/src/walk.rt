@@ -1,68 +1,13 @@
-ghost use Rattle.std.specs.Prelude.{◌≡◌, ◌≤◌, ℕ, length};
+ghost use Rattle.std.specs.Prelude.{◌≡◌, ◌≤◌, length};
 ghost use Rattle.std.specs.List.{All};
 ghost use Rattle.std.specs.Iterator.{YieldsFirst, item_count};
 ghost use Rattle.table.specs.Walks.{ahead, chain_from, AllIn, rows_ahead, arcs_ahead, Along};
-ghost use Rattle.table.specs.Ranges.{Within, row0, arc0};
+ghost use Rattle.table.specs.Ranges.{Within};
 ghost use Rattle.table.specs.Chains.{rows_of, arcs_of};
 
+use crate::chains::Linked;
 use crate::rows::{Arc, Row};
 use crate::table::Table;
-
-/// What is linked in chains: each has the number of the next, 0 at the last.
-pub trait Linked {
-    ghost next_link: { Self → ℕ };
-
-    ghost none: { Self };
-
-    fn next_link(&self) -> usize
-        ensures { result ≡ next_link self.now };
-}
-
-impl Linked for Row {
-    ghost next_link = { λ r. r.next };
-
-    ghost none = { row0 };
-
-    fn next_link(&self) -> usize {
-        self.next
-    }
-}
-
-impl Linked for Arc {
-    ghost next_link = { λ x. x.next };
-
-    ghost none = { arc0 };
-
-    fn next_link(&self) -> usize {
-        self.next
-    }
-}
-
-/// What a chain starts at: the number of its first.
-pub(crate) trait Head {
-    ghost head: { Self → ℕ };
-
-    fn head(&self) -> usize
-        ensures { result ≡ head self.now };
-}
-
-/// A grade's first row.
-impl Head for usize {
-    ghost head = { λ k. k };
-
-    fn head(&self) -> usize {
-        *self
-    }
-}
-
-/// A row's first arc.
-impl Head for Row {
-    ghost head = { λ r. r.first_arc };
-
-    fn head(&self) -> usize {
-        self.first_arc
-    }
-}
 
 /// The numbers of a chain. It leaves one that turns back on itself after `left` steps.
 #[derive(Clone, Copy)]
