@@ -6,3 +6,4 @@ pub mod Orders
 pub mod Quotients
 pub mod Algebra
 pub mod Weights
+pub mod Kept

@@ -1,36 +1,10 @@
-// Strict comparisons by any ranking, and the first cheapest of several costs.
-ghost use Rattle.std.specs.Prelude.{◌≡◌};
-ghost use Rattle.rankings.specs.Costs.{Modest};
-ghost use Rattle.rankings.specs.Choice.{AllModest, Chosen, is_cheaper, is_dearer};
+// The first cheapest of several costs, by any ranking.
+ghost use Rattle.rankings.specs.Choice.{AllModest, Chosen};
 
 use crate::ranking::Ranking;
 
-// Whether a is dearer than b.
-pub fn dearer<R: Ranking>(ranking: &R, a: (i64, i64), b: (i64, i64)) -> bool
-    requires { (Modest a) × (Modest b) }
-    ensures { result ≡ is_dearer (R.ranks ranking.now) a b }
-{
-    !ranking.no_dearer(a, b)
-}
-
-// Whether a is cheaper than b.
-pub fn cheaper<R: Ranking>(ranking: &R, a: (i64, i64), b: (i64, i64)) -> bool
-    requires { (Modest a) × (Modest b) }
-    ensures { result ≡ is_cheaper (R.ranks ranking.now) a b }
-{
-    dearer(ranking, b, a)
-}
-
-// Whether a cost that is read after the cheapest so far takes its place: only if it is cheaper, so that the first of
-// equals stays.
-pub fn takes_over<R: Ranking>(ranking: &R, best: (i64, i64), next: (i64, i64)) -> bool
-    requires { (Modest best) × (Modest next) }
-    ensures { result ≡ is_cheaper (R.ranks ranking.now) next best }
-{
-    cheaper(ranking, next, best)
-}
-
-// The place of the first cheapest of the costs, if there are any.
+// The place of the first cheapest of the costs, if there are any. A later one takes the place of an earlier only if it
+// is cheaper, so that the first of equals stays.
 pub fn first_cheapest<R: Ranking>(ranking: &R, costs: &[(i64, i64)]) -> Option<usize>
     requires { AllModest costs.now }
     ensures { Chosen (R.ranks ranking.now) costs.now result }
@@ -39,8 +13,8 @@ pub fn first_cheapest<R: Ranking>(ranking: &R, costs: &[(i64, i64)]) -> Option<u
         return None;
     }
     let mut best = 0;
-    for i in 1..costs.len() {
-        if takes_over(ranking, costs[best], costs[i]) {
+    for (i, cost) in costs.iter().enumerate() {
+        if ranking.cheaper(*cost, costs[best]) {
             best = i;
         }
     }

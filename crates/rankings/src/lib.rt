@@ -12,15 +12,17 @@ mod limits;
 mod money;
 mod money_then_minutes;
 mod ranking;
+mod rounding;
 #[cfg(test)]
 mod tests;
 mod weighed;
 
-pub use choice::{cheaper, dearer, first_cheapest, takes_over};
+pub use choice::first_cheapest;
 pub use costs::{add, scale};
-pub use division::{ceil_div, floor_div};
+pub use division::{Divisor, ceil_div, floor_div};
 pub use limits::{LARGEST_DIVISOR, LARGEST_RATE, RANKED_PART, SMALLEST_RATE};
 pub use money::Money;
 pub use money_then_minutes::MoneyThenMinutes;
-pub use ranking::{Ranking, Rounding};
+pub use ranking::Ranking;
+pub use rounding::{PartByPart, Rounding};
 pub use weighed::Weighed;

@@ -4,7 +4,7 @@
 pub const RANKED_PART: i64 = 10_000_000_000_000_000;
 
 // The largest number that a rounding divides by.
-pub const LARGEST_DIVISOR: i64 = 1_000_000;
+pub const LARGEST_DIVISOR: u32 = 1_000_000;
 
 // What a minute weighs, in cents: a rate outside these counts as the nearer of them.
 pub const SMALLEST_RATE: i64 = 1;

@@ -7,6 +7,8 @@ ghost use Rattle.rankings.specs.Models.{both_down, both_up, by_money, by_money_t
 
 use super::*;
 
+const HALF: Divisor = Divisor { by: 2 };
+
 // -7 and 7 by 2, taken down.
 fn halves_down() -> (i64, i64)
     ensures { result ≡ both_down (negsuc 6, pos 7) 2 }
@@ -24,12 +26,15 @@ fn halves_up() -> (i64, i64)
 // The quotient goes down or up on either side of zero, by each ranking alike.
 #[test]
 fn rounds_past_zero(rt: HostRuntime) {
-    assert_eq!(rt; Money.round_cheap((-7, 7), 2), halves_down());
-    assert_eq!(rt; Money.round_dear((-7, 7), 2), halves_up());
-    assert_eq!(rt; MoneyThenMinutes.round_cheap((-7, 7), 2), halves_down());
-    assert_eq!(rt; MoneyThenMinutes.round_dear((-7, 7), 2), halves_up());
-    assert_eq!(rt; Weighed { rate: 3 }.round_cheap((-7, 7), 2), halves_down());
-    assert_eq!(rt; Weighed { rate: 3 }.round_dear((-7, 7), 2), halves_up());
+    assert_eq!(rt; Money.round_cheap((-7, 7), HALF), halves_down());
+    assert_eq!(rt; Money.round_dear((-7, 7), HALF), halves_up());
+    assert_eq!(rt; MoneyThenMinutes.round_cheap((-7, 7), HALF), halves_down());
+    assert_eq!(rt; MoneyThenMinutes.round_dear((-7, 7), HALF), halves_up());
+    assert_eq!(rt;
+        Weighed { rate: 3 }.round_cheap((-7, 7), HALF),
+        halves_down()
+    );
+    assert_eq!(rt; Weighed { rate: 3 }.round_dear((-7, 7), HALF), halves_up());
 }
 
 // The code's limits are the definitions'.
@@ -39,10 +44,12 @@ fn ranked_part() -> i64
     RANKED_PART
 }
 
-fn largest_divisor() -> i64
-    ensures { result ≡ pos largest_divisor }
+fn largest_divisor() -> Divisor
+    ensures { result.by ≡ largest_divisor }
 {
-    LARGEST_DIVISOR
+    Divisor {
+        by: LARGEST_DIVISOR,
+    }
 }
 
 #[test]
@@ -73,11 +80,11 @@ fn equal_money(rt: HostRuntime) {
     assert_eq!(rt; Money.no_dearer((10, 5), (10, 3)), equal_by_money());
     assert_eq!(rt; Money.no_dearer((10, 3), (10, 5)), equal_by_money());
     assert_eq!(rt;
-        cheaper(&MoneyThenMinutes, (10, 3), (10, 5)),
+        MoneyThenMinutes.cheaper((10, 3), (10, 5)),
         cheaper_by_minutes()
     );
     assert_eq!(rt;
-        dearer(&MoneyThenMinutes, (10, 5), (10, 3)),
+        MoneyThenMinutes.dearer((10, 5), (10, 3)),
         cheaper_by_minutes()
     );
 }
