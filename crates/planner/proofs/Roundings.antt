@@ -1,6 +1,5 @@
 -- Roundings by b · D: what they may be asked, and that they give figures in range. Assumes nothing.
-use Rattle.std.proofs.Common.{◌≡◌, ℕ, ◌*◌, ◌^◌, Bool, true, false, ℤ, pos, ◌≤ℤ◌, Some, None, Option, ap, ◌∙◌, subst, arith, w64, SFits, to_z, of_z}
-use Rattle.std.proofs.lemmas.Int.{ints, to_z-of_z}
+use Rattle.std.proofs.Common.{◌≡◌, ℕ, ◌*◌, ◌^◌, Bool, true, false, Some, None, Option, subst, arith}
 use Rattle.rankings.specs.Costs.{Cost, Within, Modest}
 use Rattle.rankings.specs.Laws.{Rounds}
 use Rattle.rankings.proofs.Sizes.{within_more, rounded_within}
@@ -9,18 +8,6 @@ use Rattle.table.specs.Lookahead.{scaling}
 use Rattle.table.proofs.Magnitudes.{scaling-≤, scaling_some, scaled_modest}
 use Rattle.planner.specs.declared.choice.Choice.{Choice}
 use Rattle.planner.specs.Sweeps.{raise, lower}
-
-module _ (t : Table) (d : ℤ) (e : d ≡ pos (scaling t)) where
-  pub divisor_is : to_z w64 (of_z w64 d) ≡ pos (scaling t)
-  divisor_is =
-      let fit : SFits w64 (pos (scaling t)) = omega (arith, ints, scaling-≤ t) in
-      ap (λ z. to_z w64 (of_z w64 z)) e ∙ to_z-of_z w64 (pos (scaling t)) fit
-
-  pub divisor_low : pos 1 ≤ℤ to_z w64 (of_z w64 d)
-  divisor_low = rw divisor_is (omega (arith, ints, scaling_some t))
-
-  pub divisor_high : to_z w64 (of_z w64 d) ≤ℤ pos 1000000
-  divisor_high = rw divisor_is (omega (arith, ints, scaling-≤ t))
 
 pub figure_modest : (c : Cost) → Within (10 ^ 10) c → Modest c
 figure_modest c h = within_more (10 ^ 10) (10 ^ 16) c (omega arith) h

@@ -4,7 +4,7 @@ ghost use Rattle.table.specs.Ranges.{Within};
 ghost use Rattle.table.specs.Lookahead.{figure_at, scaling};
 ghost use Rattle.planner.specs.Choices.{cheaper_of, cheapest_row, CheapestOf};
 
-use rankings::{Ranking, takes_over};
+use rankings::Ranking;
 use table::{Column, SoundTable, lookahead};
 
 /// A row, and what it costs one step ahead.
@@ -19,7 +19,7 @@ fn cheaper_of<R: Ranking>(ranking: &R, best: Choice, next: Choice) -> Choice
     requires { (Modest best.cost) × (Modest next.cost) }
     ensures { result ≡ cheaper_of (R.ranks ranking.now) best next }
 {
-    if takes_over(ranking, best.cost, next.cost) {
+    if ranking.cheaper(next.cost, best.cost) {
         next
     } else {
         best

@@ -7,7 +7,7 @@ ghost use Rattle.planner.specs.Sweeps.{shown, applied};
 ghost use Rattle.planner.specs.Keeping.{dearer_floor, cheaper_choice, nearer_of};
 
 use crate::choice::Choice;
-use rankings::{Ranking, cheaper, dearer};
+use rankings::Ranking;
 use table::{Column, Figures, FiledLine, FilingFault, Page, check_filing};
 
 /// The filed floor of the grade g, if it is dearer than the standing one.
@@ -22,7 +22,7 @@ fn dearer_floor<R: Ranking>(
     ensures within { IfSome result FigureIn }
 {
     let floor = filed.floor.at[g - 1];
-    if dearer(ranking, floor, standing.floor.at[g - 1]) {
+    if ranking.dearer(floor, standing.floor.at[g - 1]) {
         Some(floor)
     } else {
         None
@@ -42,7 +42,7 @@ fn cheaper_ceiling<R: Ranking>(
     ensures row { IfSome result (λ c. c.row ≡ plan_row filed.now.row g) }
 {
     let cost = filed.ceiling.at[g - 1];
-    if cheaper(ranking, cost, standing.ceiling.at[g - 1]) {
+    if ranking.cheaper(cost, standing.ceiling.at[g - 1]) {
         Some(Choice {
             row: filed.row[g - 1],
             cost,

@@ -7,7 +7,7 @@ ghost use Rattle.planner.specs.Improvements.{eased, given, round_of, giving_way,
 
 use crate::choice::cheapest_row;
 use crate::sweep::divisor;
-use rankings::{Rounding, cheaper};
+use rankings::Rounding;
 use table::{Column, Figures, MAX_GRADES, Page, SoundTable, lookahead};
 
 /// The ceiling of the grade g after a round, if its plan row makes it cheaper.
@@ -24,7 +24,7 @@ fn eased_ceiling<R: Rounding>(
 {
     let ahead = lookahead(sound, rows[g - 1], ceilings)?;
     let ceiling = ranking.round_dear(ahead, divisor(sound));
-    if cheaper(ranking, ceiling, ceilings.at[g - 1]) {
+    if ranking.cheaper(ceiling, ceilings.at[g - 1]) {
         Some(ceiling)
     } else {
         None
@@ -66,7 +66,7 @@ fn better_row<R: Rounding>(
 {
     let kept = lookahead(sound, rows[g - 1], ceilings)?;
     let best = cheapest_row(ranking, sound, g, ceilings)?;
-    if cheaper(ranking, best.cost, kept) {
+    if ranking.cheaper(best.cost, kept) {
         Some(best.row)
     } else {
         None

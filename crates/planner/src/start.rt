@@ -4,7 +4,7 @@ ghost use Rattle.planner.specs.Keeping.{ShownKept};
 ghost use Rattle.planner.specs.Sweeps.{shown};
 ghost use Rattle.planner.specs.Start.{cheapest_cost, dearest_cost, Extremes, Start};
 
-use rankings::{Ranking, cheaper, dearer, scale};
+use rankings::{Ranking, scale};
 use table::{Column, Figures, MAX_GRADES, Page, SoundTable, Table};
 
 /// The cheapest of zero and all row costs; among equals zero, then the lowest row.
@@ -14,7 +14,7 @@ fn cheapest_cost<R: Ranking>(ranking: &R, table: &Table) -> (i64, i64)
 {
     let mut best = (0, 0);
     for i in 0..table.rows {
-        if cheaper(ranking, table.row[i].cost, best) {
+        if ranking.cheaper(table.row[i].cost, best) {
             best = table.row[i].cost;
         }
     }
@@ -28,7 +28,7 @@ fn dearest_cost<R: Ranking>(ranking: &R, table: &Table) -> (i64, i64)
 {
     let mut worst = (0, 0);
     for i in 0..table.rows {
-        if dearer(ranking, table.row[i].cost, worst) {
+        if ranking.dearer(table.row[i].cost, worst) {
             worst = table.row[i].cost;
         }
     }

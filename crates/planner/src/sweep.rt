@@ -1,18 +1,20 @@
-ghost use Rattle.std.specs.Prelude.{◌≡◌, pos, IfSome};
+ghost use Rattle.std.specs.Prelude.{◌≡◌, IfSome};
 ghost use Rattle.table.specs.Ranges.{Within, FigureIn};
 ghost use Rattle.table.specs.Lookahead.{figure_at, scaling};
 ghost use Rattle.planner.specs.Keeping.{Keeping};
 ghost use Rattle.planner.specs.Sweeps.{applied, raised, lowered, lowered_row, lowered_cost, floors_move, ceilings_move, shown, sweep_of, moves, sweeps};
 
 use crate::choice::{Choice, cheapest_row};
-use rankings::{Rounding, cheaper, dearer};
+use rankings::{Divisor, Rounding};
 use table::{Column, Figures, Page, SoundTable};
 
 /// b · D, by which X is divided to give a figure.
-pub(crate) fn divisor(sound: &SoundTable) -> i64
-    ensures { result ≡ pos (scaling sound.now.table) }
+pub(crate) fn divisor(sound: &SoundTable) -> Divisor
+    ensures { result.by ≡ scaling sound.now.table }
 {
-    i64::from(sound.table.denominator * sound.table.total)
+    Divisor {
+        by: sound.table.denominator * sound.table.total,
+    }
 }
 
 /// The floor of the grade g after a sweep, if the sweep raises it.
@@ -28,7 +30,7 @@ fn raised_floor<R: Rounding>(
 {
     let best = cheapest_row(ranking, sound, g, floors)?;
     let floor = ranking.round_cheap(best.cost, divisor(sound));
-    if dearer(ranking, floor, floors.at[g - 1]) {
+    if ranking.dearer(floor, floors.at[g - 1]) {
         Some(floor)
     } else {
         None
@@ -49,7 +51,7 @@ fn lowered_ceiling<R: Rounding>(
 {
     let best = cheapest_row(ranking, sound, g, ceilings)?;
     let cost = ranking.round_dear(best.cost, divisor(sound));
-    if cheaper(ranking, cost, ceilings.at[g - 1]) {
+    if ranking.cheaper(cost, ceilings.at[g - 1]) {
         Some(Choice {
             row: best.row,
             cost,

@@ -1,17 +1,14 @@
-use Rattle.std.proofs.Common.{◌≡◌, ◌-◌, nat_abs, Some, sym, ap, ◌∙◌, arith}
+use Rattle.std.proofs.Common.{◌≡◌, ◌-◌, Some, sym, ap, ◌∙◌, arith}
 use Rattle.std.proofs.lemmas.Bool.{not-true, not-false}
 use Rattle.table.specs.Lookahead.{figure_at, scaling, lookahead_of}
 use Rattle.table.specs.Rules.{plan_row}
-use Rattle.planner.proofs.Roundings.{divisor_is, divisor_low, divisor_high, figure_modest, dear_within}
+use Rattle.planner.proofs.Roundings.{figure_modest, dear_within}
 use Rattle.planner.proofs.Rounds.{ease_yes, ease_no}
 use Rattle.planner.proofs.improve.eased_ceiling.Goals as goal
 
 pub round_dear-ceiling-requires : goal.round_dear-ceiling-requires
 round_dear-ceiling-requires g c =
-    let t = c.args.sound.now.table in (
-      c.in_ok-ahead.ensures.modest,
-      (divisor_low t c.divisor.result c.divisor.ensures, divisor_high t c.divisor.result c.divisor.ensures),
-    )
+    c.in_ok-ahead.ensures.modest
 
 pub cheaper-requires : goal.cheaper-requires
 cheaper-requires g c =
@@ -29,7 +26,7 @@ returns-then-cheaper g c =
     let old = w c.args.g in
     let x = c.in_ok-ahead.ahead in
     let v = c.round_dear-ceiling.result in
-    let is : v ≡ dear x (scaling t) = c.round_dear-ceiling.ensures.is ∙ ap (λ z. dear x (nat_abs z)) (divisor_is t c.divisor.result c.divisor.ensures) in
+    let is : v ≡ dear x (scaling t) = c.round_dear-ceiling.ensures.is ∙ ap (dear x) c.divisor.ensures in
     let ahead = lookahead_of t (plan_row c.args.rows.now c.args.g) w in
     record {
       is = ap Some is ∙ ease_yes le dear t old ahead x c.in_ok-ahead.ensures.is (ap (λ v. le old v) (sym is) ∙ not-true (le old v) (sym c.if-cheaper.ensures));
@@ -46,7 +43,7 @@ returns-else-cheaper g c =
     let old = w c.args.g in
     let x = c.in_ok-ahead.ahead in
     let v = c.round_dear-ceiling.result in
-    let is : v ≡ dear x (scaling t) = c.round_dear-ceiling.ensures.is ∙ ap (λ z. dear x (nat_abs z)) (divisor_is t c.divisor.result c.divisor.ensures) in
+    let is : v ≡ dear x (scaling t) = c.round_dear-ceiling.ensures.is ∙ ap (dear x) c.divisor.ensures in
     let ahead = lookahead_of t (plan_row c.args.rows.now c.args.g) w in
     record {
       is = ease_no le dear t old ahead x c.in_ok-ahead.ensures.is (ap (λ v. le old v) (sym is) ∙ not-false (le old v) (sym c.if-cheaper.ensures));

@@ -1,17 +1,15 @@
-use Rattle.std.proofs.Common.{◌≡◌, ◌-◌, nat_abs, Some, sym, ap, ◌∙◌, arith}
+use Rattle.std.proofs.Common.{◌≡◌, ◌-◌, Some, sym, ap, ◌∙◌, arith}
 use Rattle.std.proofs.lemmas.Bool.{not-true, not-false}
 use Rattle.table.specs.Lookahead.{figure_at, scaling}
 use Rattle.table.proofs.Magnitudes.{scaled_modest}
 use Rattle.planner.specs.Choices.{cheapest_row}
-use Rattle.planner.proofs.Roundings.{divisor_is, divisor_low, divisor_high, figure_modest, dear_within, lower_yes, lower_no}
+use Rattle.planner.proofs.Roundings.{figure_modest, dear_within, lower_yes, lower_no}
 use Rattle.planner.proofs.sweep.lowered_ceiling.Goals as goal
 
 pub round_dear-cost-requires : goal.round_dear-cost-requires
 round_dear-cost-requires g c =
-    let t = c.args.sound.now.table in (
-      scaled_modest t c.in_ok-best.best.cost c.in_ok-best.ensures.within,
-      (divisor_low t c.divisor.result c.divisor.ensures, divisor_high t c.divisor.result c.divisor.ensures),
-    )
+    let t = c.args.sound.now.table in
+    scaled_modest t c.in_ok-best.best.cost c.in_ok-best.ensures.within
 
 pub cheaper-requires : goal.cheaper-requires
 cheaper-requires g c =
@@ -28,7 +26,7 @@ returns-then-cheaper g c =
     let b = c.in_ok-best.best in
     let old = figure_at c.args.ceilings.now.at c.args.g in
     let x = c.round_dear-cost.result in
-    let is : x ≡ dear b.cost (scaling t) = c.round_dear-cost.ensures.is ∙ ap (λ z. dear b.cost (nat_abs z)) (divisor_is t c.divisor.result c.divisor.ensures) in
+    let is : x ≡ dear b.cost (scaling t) = c.round_dear-cost.ensures.is ∙ ap (dear b.cost) c.divisor.ensures in
     let best = cheapest_row le t (figure_at c.args.ceilings.now.at) c.args.g in
     record {
       is = ap (λ v. Some (record { row = b.row; cost = v })) is ∙ lower_yes le cheap dear t old best b c.in_ok-best.ensures.is (ap (λ v. le old v) (sym is) ∙ not-true (le old x) (sym c.if-cheaper.ensures));
@@ -46,7 +44,7 @@ returns-else-cheaper g c =
     let b = c.in_ok-best.best in
     let old = figure_at c.args.ceilings.now.at c.args.g in
     let x = c.round_dear-cost.result in
-    let is : x ≡ dear b.cost (scaling t) = c.round_dear-cost.ensures.is ∙ ap (λ z. dear b.cost (nat_abs z)) (divisor_is t c.divisor.result c.divisor.ensures) in
+    let is : x ≡ dear b.cost (scaling t) = c.round_dear-cost.ensures.is ∙ ap (dear b.cost) c.divisor.ensures in
     let best = cheapest_row le t (figure_at c.args.ceilings.now.at) c.args.g in
     record {
       is = lower_no le cheap dear t old best b c.in_ok-best.ensures.is (ap (λ v. le old v) (sym is) ∙ not-false (le old x) (sym c.if-cheaper.ensures));

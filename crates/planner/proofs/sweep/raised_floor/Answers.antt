@@ -1,17 +1,15 @@
-use Rattle.std.proofs.Common.{◌≡◌, ◌-◌, nat_abs, Some, sym, ap, ◌∙◌, arith}
+use Rattle.std.proofs.Common.{◌≡◌, ◌-◌, Some, sym, ap, ◌∙◌, arith}
 use Rattle.std.proofs.lemmas.Bool.{not-true, not-false}
 use Rattle.table.specs.Lookahead.{figure_at, scaling}
 use Rattle.table.proofs.Magnitudes.{scaled_modest}
 use Rattle.planner.specs.Choices.{cheapest_row}
-use Rattle.planner.proofs.Roundings.{divisor_is, divisor_low, divisor_high, figure_modest, cheap_within, raise_yes, raise_no}
+use Rattle.planner.proofs.Roundings.{figure_modest, cheap_within, raise_yes, raise_no}
 use Rattle.planner.proofs.sweep.raised_floor.Goals as goal
 
 pub round_cheap-floor-requires : goal.round_cheap-floor-requires
 round_cheap-floor-requires g c =
-    let t = c.args.sound.now.table in (
-      scaled_modest t c.in_ok-best.best.cost c.in_ok-best.ensures.within,
-      (divisor_low t c.divisor.result c.divisor.ensures, divisor_high t c.divisor.result c.divisor.ensures),
-    )
+    let t = c.args.sound.now.table in
+    scaled_modest t c.in_ok-best.best.cost c.in_ok-best.ensures.within
 
 pub dearer-requires : goal.dearer-requires
 dearer-requires g c =
@@ -28,7 +26,7 @@ returns-then-dearer g c =
     let b = c.in_ok-best.best in
     let old = figure_at c.args.floors.now.at c.args.g in
     let x = c.round_cheap-floor.result in
-    let is : x ≡ cheap b.cost (scaling t) = c.round_cheap-floor.ensures.is ∙ ap (λ z. cheap b.cost (nat_abs z)) (divisor_is t c.divisor.result c.divisor.ensures) in
+    let is : x ≡ cheap b.cost (scaling t) = c.round_cheap-floor.ensures.is ∙ ap (cheap b.cost) c.divisor.ensures in
     let best = cheapest_row le t (figure_at c.args.floors.now.at) c.args.g in
     record {
       is = ap Some is ∙ raise_yes le cheap dear t old best b c.in_ok-best.ensures.is (ap (λ v. le v old) (sym is) ∙ not-true (le x old) (sym c.if-dearer.ensures));
@@ -45,7 +43,7 @@ returns-else-dearer g c =
     let b = c.in_ok-best.best in
     let old = figure_at c.args.floors.now.at c.args.g in
     let x = c.round_cheap-floor.result in
-    let is : x ≡ cheap b.cost (scaling t) = c.round_cheap-floor.ensures.is ∙ ap (λ z. cheap b.cost (nat_abs z)) (divisor_is t c.divisor.result c.divisor.ensures) in
+    let is : x ≡ cheap b.cost (scaling t) = c.round_cheap-floor.ensures.is ∙ ap (cheap b.cost) c.divisor.ensures in
     let best = cheapest_row le t (figure_at c.args.floors.now.at) c.args.g in
     record {
       is = raise_no le cheap dear t old best b c.in_ok-best.ensures.is (ap (λ v. le v old) (sym is) ∙ not-false (le x old) (sym c.if-dearer.ensures));
