@@ -2,6 +2,8 @@ pub mod Costs
 pub mod Cheapest
 pub mod Roundings
 pub mod Columns
+pub mod Tests
+pub mod Givens
 pub mod Repeats
 pub mod Averages
 pub mod Dearest

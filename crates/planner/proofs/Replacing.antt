@@ -1,11 +1,13 @@
 -- What stands at a grade's place after figures were replaced. Assumes nothing.
-use Rattle.std.proofs.Common.{◌≡◌, ℕ, zero, suc, ◌+◌, ◌-◌, ◌<◌, ◌≤◌, List, length, get_or, Some, None, Option, sym, refl, ap, ◌∙◌, subst, ⊎_elim, arith}
-use Rattle.std.proofs.lemmas.List.{get_or-set_same, get_or-set_other, length-set}
+use Rattle.std.proofs.Common.{◌≡◌, ℕ, zero, suc, ◌+◌, ◌-◌, ◌<◌, ◌≤◌, List, length, get_or, set, Some, None, Option, IfSome, sym, refl, ap, ◌∙◌, subst, ⊎_elim, arith}
+use Rattle.std.specs.Option.{unwrap_or, option_map}
+use Rattle.std.proofs.lemmas.List.{get_or-set_same, get_or-set_other, length-set, set-get_or}
 use Rattle.std.proofs.lemmas.Bool.{cases_eq, cases_lt}
 use Rattle.rankings.specs.Costs.{Cost, zero as nothing}
-use Rattle.table.specs.Ranges.{Within, FigureIn, FiguresIn}
+use Rattle.table.specs.Ranges.{Within, FirstsIn, FigureIn, FiguresIn}
 use Rattle.table.specs.Lookahead.{figure_at}
 use Rattle.planner.specs.Sweeps.{replaced, applied}
+use Rattle.planner.proofs.Columns.{applied_some, applied_none}
 
 -- the new one, if there is one, and else the old
 abbrev pub or_old : {A : Type 0} → Option A → A → A
@@ -58,3 +60,27 @@ applied_in f n ws m long old each i h =
     subst FigureIn (sym (applied_at f n ws i nothing lt (omega (arith, long)))) (subst (λ j. FigureIn (or_old (f (i + 1)) (get_or ws j nothing))) same (each (i + 1) (omega arith, omega arith))))
     (λ ge. subst FigureIn (sym (applied_beyond f n ws i nothing ge)) (old i h))
     (cases_lt i n)
+
+-- one grade more, whose entry is written in any case: the old one, where nothing is given
+pub applied_or : {A : Type 0} (f : ℕ → Option A) (n : ℕ) (xs ys : List A) (d : A) (o : Option A) → ys ≡ applied f n xs → o ≡ f (n + 1) → set ys n (unwrap_or o (get_or xs n d)) ≡ applied f (n + 1) xs
+applied_or f n xs ys d None so e =
+    let same : get_or xs n d ≡ get_or ys n d = sym (applied_beyond f n xs n d (omega arith)) ∙ ap (λ l. get_or l n d) (sym so) in
+    ap (set ys n) same ∙ set-get_or ys n d ∙ applied_none f n xs ys so e
+applied_or f n xs ys d (Some x) so e = applied_some f n xs ys x so e
+
+-- what holds of the old and of the new holds of what stands there
+or_holds : {A : Type 0} (P : A → Type 0) (o : Option A) (old : A) → IfSome o P → P old → P (or_old o old)
+or_holds P None old new kept = kept
+or_holds P (Some x) old new kept = new
+
+pub part_holds : {A B : Type 0} (part : A → B) (P : B → Type 0) (Q : A → Type 0) (o : Option A) → ((x : A) → Q x → P (part x)) → IfSome o Q → IfSome (option_map part o) P
+part_holds part P Q None h all = tt
+part_holds part P Q (Some x) h all = h x all
+
+-- figures in range, and rows of a table, stay so
+pub applied_figures : (f : ℕ → Option Cost) (ws : List Cost) → length ws ≡ 32 → FiguresIn ws → ((i : ℕ) → i < 32 → IfSome (f (i + 1)) FigureIn) → FiguresIn (applied f 32 ws)
+applied_figures f ws long old new i h = subst FigureIn (sym (applied_at f 32 ws i nothing h (omega (arith, long)))) (or_holds FigureIn (f (i + 1)) (get_or ws i nothing) (new i h) (old i h))
+
+pub applied_rows : (n most : ℕ) (f : ℕ → Option ℕ) (rows : List ℕ) → n ≤ 32 → length rows ≡ 32 → FirstsIn n most rows → ((i : ℕ) → i < 32 → IfSome (f (i + 1)) (Within 1 most)) → FirstsIn n most (applied f 32 rows)
+applied_rows n most f rows few long old new i h =
+    subst (Within 1 most) (sym (applied_at f 32 rows i 0 (omega arith) (omega (arith, long)))) (or_holds (Within 1 most) (f (i + 1)) (get_or rows i 0) (new i (omega arith)) (old i h))

@@ -1,5 +1,6 @@
 -- Roundings by b · D: what they may be asked, and that they give figures in range. Assumes nothing.
-use Rattle.std.proofs.Common.{◌≡◌, ℕ, ◌*◌, ◌^◌, Bool, true, false, Some, None, Option, subst, arith}
+use Rattle.std.proofs.Common.{◌≡◌, ℕ, ◌*◌, ◌^◌, Bool, true, false, Some, None, Option, sym, subst, arith, IfSome}
+use Rattle.std.specs.Bool.{then_some}
 use Rattle.rankings.specs.Costs.{Cost, Within, Modest}
 use Rattle.rankings.specs.Laws.{Rounds}
 use Rattle.rankings.proofs.Sizes.{within_more, rounded_within}
@@ -32,3 +33,11 @@ module _ (le : Cost → Cost → Bool) (cheap dear : Cost → ℕ → Cost) (t :
 
   pub lower_no : le old (dear b.cost (scaling t)) ≡ true → None ≡ lower le cheap dear t old o
   lower_no n = subst (λ p. None ≡ lower le cheap dear t old p) e (simp n)
+
+-- what holds of a value holds of it where it is given on a condition
+pub some_holds : {A : Type 0} (P : A → Type 0) (b : Bool) (v : A) (o : Option A) → o ≡ then_some b v → P v → IfSome o P
+some_holds P b v o e p = subst (λ x. IfSome x P) (sym e) (given b)
+  where
+    given : (b : Bool) → IfSome (then_some b v) P
+    given true = p
+    given false = tt

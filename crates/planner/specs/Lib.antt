@@ -5,3 +5,4 @@ pub mod Policies
 pub mod Improvements
 pub mod Keeping
 pub mod Takings
+pub mod Grades

@@ -7,66 +7,44 @@ ghost use Rattle.planner.specs.Sweeps.{shown, applied};
 ghost use Rattle.planner.specs.Keeping.{dearer_floor, cheaper_choice, nearer_of};
 
 use crate::choice::Choice;
+use crate::grades::{per_grade, revised};
 use rankings::Ranking;
-use table::{Column, Figures, FiledLine, FilingFault, Page, check_filing};
+use table::{Figures, FiledLine, FilingFault, Grade, Page, check_filing};
 
-/// The filed floor of the grade g, if it is dearer than the standing one.
+/// The grade's filed floor, if it is dearer than the standing one.
 fn dearer_floor<R: Ranking>(
     ranking: &R,
+    grade: Grade<'_>,
     standing: &Figures,
     filed: &Figures,
-    g: usize,
 ) -> Option<(i64, i64)>
-    requires { Within 1 32 g }
-    ensures is { result ≡ dearer_floor (R.ranks ranking.now) (shown standing.now) (shown filed.now) g }
+    ensures is { result ≡ dearer_floor (R.ranks ranking.now) (shown standing.now) (shown filed.now) grade.entry.number }
     ensures within { IfSome result FigureIn }
 {
-    let floor = filed.floor.at[g - 1];
-    if ranking.dearer(floor, standing.floor.at[g - 1]) {
-        Some(floor)
-    } else {
-        None
-    }
+    let floor = grade.figure(&filed.floor);
+    ranking
+        .dearer(floor, grade.figure(&standing.floor))
+        .then_some(floor)
 }
 
-/// The filed ceiling of the grade g with its row, if it is cheaper than the standing one.
+/// The grade's filed ceiling with its row, if it is cheaper than the standing one.
 fn cheaper_ceiling<R: Ranking>(
     ranking: &R,
+    grade: Grade<'_>,
     standing: &Figures,
     filed: &Figures,
-    g: usize,
 ) -> Option<Choice>
-    requires { Within 1 32 g }
-    ensures is { result ≡ cheaper_choice (R.ranks ranking.now) (shown standing.now) (shown filed.now) g }
+    ensures is { result ≡ cheaper_choice (R.ranks ranking.now) (shown standing.now) (shown filed.now) grade.entry.number }
     ensures within { IfSome result (λ c. FigureIn c.cost) }
-    ensures row { IfSome result (λ c. c.row ≡ plan_row filed.now.row g) }
+    ensures row { IfSome result (λ c. c.row ≡ plan_row filed.now.row grade.entry.number) }
 {
-    let cost = filed.ceiling.at[g - 1];
-    if ranking.cheaper(cost, standing.ceiling.at[g - 1]) {
-        Some(Choice {
-            row: filed.row[g - 1],
-            cost,
-        })
-    } else {
-        None
-    }
-}
-
-/// The floors of n grades, each the dearer of the standing and the filed one.
-fn nearer_floors<R: Ranking>(ranking: &R, standing: &Figures, filed: &Figures, n: usize) -> Column
-    requires { n ≤ 32 }
-    ensures { result.at ≡ applied (dearer_floor (R.ranks ranking.now) (shown standing.now) (shown filed.now)) n standing.now.floor.at }
-{
-    let mut at = standing.floor.at;
-    for i in 0..n {
-        match dearer_floor(ranking, standing, filed, i + 1) {
-            Some(floor) => {
-                at[i] = floor;
-            }
-            None => {}
-        }
-    }
-    Column { at }
+    let choice = Choice {
+        row: filed.row[grade.number - 1],
+        cost: grade.figure(&filed.ceiling),
+    };
+    ranking
+        .cheaper(choice.cost, grade.figure(&standing.ceiling))
+        .then_some(choice)
 }
 
 /// The standing figures, with each filed floor that is dearer and each filed ceiling that is cheaper in its place, the
@@ -76,31 +54,10 @@ fn nearer_page<R: Ranking>(ranking: &R, standing: &Page, filed: &Page) -> Page
     ensures table { result.sound ≡ standing.now.sound }
     ensures after { shown result.figures ≡ nearer_of (R.ranks ranking.now) (shown standing.now.figures) (shown filed.now.figures) standing.now.sound.table.grades }
 {
-    let sound = standing.sound;
-    let floor = nearer_floors(
-        ranking,
-        &standing.figures,
-        &filed.figures,
-        sound.table.grades,
-    );
-    let mut row = standing.figures.row;
-    let mut at = standing.figures.ceiling.at;
-    for i in 0..sound.table.grades {
-        match cheaper_ceiling(ranking, &standing.figures, &filed.figures, i + 1) {
-            Some(choice) => {
-                at[i] = choice.cost;
-                row[i] = choice.row;
-            }
-            None => {}
-        }
-    }
-    let ceiling = Column { at };
-    let figures = Figures {
-        row,
-        floor,
-        ceiling,
-    };
-    Page { sound, figures }
+    let (old, new) = (&standing.figures, &filed.figures);
+    let floors = per_grade(&standing.sound, |grade| dearer_floor(ranking, grade, old, new));
+    let choices = per_grade(&standing.sound, |grade| cheaper_ceiling(ranking, grade, old, new));
+    revised(standing, &floors, &choices)
 }
 
 /// Files lines: each grade keeps the dearer floor, and the cheaper ceiling with its row; the standing one at a tie. It is

@@ -1,76 +1,40 @@
 ghost use Rattle.std.specs.Prelude.{◌≡◌, IfSome};
 ghost use Rattle.table.specs.Ranges.{Within, FigureIn};
 ghost use Rattle.table.specs.Lookahead.{figure_at};
-ghost use Rattle.planner.specs.Sweeps.{applied, shown};
+ghost use Rattle.planner.specs.Sweeps.{shown};
 ghost use Rattle.planner.specs.Keeping.{Keeping};
 ghost use Rattle.planner.specs.Improvements.{eased, given, round_of, giving_way, rounds};
 
 use crate::choice::cheapest_row;
+use crate::grades::{count_given, per_grade, replaced};
 use crate::sweep::divisor;
 use rankings::Rounding;
-use table::{Column, Figures, MAX_GRADES, Page, SoundTable, lookahead};
+use table::{Column, Figures, Grade, Page, lookahead};
 
-/// The ceiling of the grade g after a round, if its plan row makes it cheaper.
+/// The grade's ceiling after a round, if its plan row makes it cheaper.
 fn eased_ceiling<R: Rounding>(
     ranking: &R,
-    sound: &SoundTable,
-    g: usize,
-    rows: &[usize; MAX_GRADES],
-    ceilings: &Column,
+    grade: Grade<'_>,
+    figures: &Figures,
 ) -> Option<(i64, i64)>
-    requires { Within 1 sound.now.table.grades g }
-    ensures is { result ≡ eased (R.Ranking.ranks ranking.now) (R.dear ranking.now) sound.now.table rows.now (figure_at ceilings.now.at) g }
+    ensures is { result ≡ eased (R.Ranking.ranks ranking.now) (R.dear ranking.now) grade.entry.sound.now.table figures.now.row (figure_at figures.now.ceiling.at) grade.entry.number }
     ensures within { IfSome result FigureIn }
 {
-    let ahead = lookahead(sound, rows[g - 1], ceilings)?;
-    let ceiling = ranking.round_dear(ahead, divisor(sound));
-    if ranking.cheaper(ceiling, ceilings.at[g - 1]) {
-        Some(ceiling)
-    } else {
-        None
-    }
+    let ahead = lookahead(grade.sound, figures.row[grade.number - 1], &figures.ceiling)?;
+    let ceiling = ranking.round_dear(ahead, divisor(grade.sound));
+    ranking
+        .cheaper(ceiling, grade.figure(&figures.ceiling))
+        .then_some(ceiling)
 }
 
-/// All ceilings after a round, each reckoned from the ceilings before it.
-fn eased_ceilings<R: Rounding>(
-    ranking: &R,
-    sound: &SoundTable,
-    rows: &[usize; MAX_GRADES],
-    ceilings: &Column,
-) -> Column
-    ensures { result.at ≡ applied (eased (R.Ranking.ranks ranking.now) (R.dear ranking.now) sound.now.table rows.now (figure_at ceilings.now.at)) sound.now.table.grades ceilings.now.at }
+/// The row that the grade's plan row gives way to: the grade's cheapest, if that is cheaper.
+fn better_row<R: Rounding>(ranking: &R, grade: Grade<'_>, figures: &Figures) -> Option<usize>
+    ensures is { result ≡ given (R.Ranking.ranks ranking.now) (R.dear ranking.now) grade.entry.sound.now.table figures.now.row (figure_at figures.now.ceiling.at) grade.entry.number }
+    ensures row { IfSome result (Within 1 grade.entry.sound.now.table.rows) }
 {
-    let mut at = ceilings.at;
-    for i in 0..sound.table.grades {
-        match eased_ceiling(ranking, sound, i + 1, rows, ceilings) {
-            Some(ceiling) => {
-                at[i] = ceiling;
-            }
-            None => {}
-        }
-    }
-    Column { at }
-}
-
-/// The row that the plan row of the grade g gives way to: the grade's cheapest, if that is cheaper.
-fn better_row<R: Rounding>(
-    ranking: &R,
-    sound: &SoundTable,
-    g: usize,
-    rows: &[usize; MAX_GRADES],
-    ceilings: &Column,
-) -> Option<usize>
-    requires { Within 1 sound.now.table.grades g }
-    ensures is { result ≡ given (R.Ranking.ranks ranking.now) (R.dear ranking.now) sound.now.table rows.now (figure_at ceilings.now.at) g }
-    ensures row { IfSome result (Within 1 sound.now.table.rows) }
-{
-    let kept = lookahead(sound, rows[g - 1], ceilings)?;
-    let best = cheapest_row(ranking, sound, g, ceilings)?;
-    if ranking.cheaper(best.cost, kept) {
-        Some(best.row)
-    } else {
-        None
-    }
+    let kept = lookahead(grade.sound, figures.row[grade.number - 1], &figures.ceiling)?;
+    let best = cheapest_row(ranking, grade.sound, grade.number, &figures.ceiling)?;
+    ranking.cheaper(best.cost, kept).then_some(best.row)
 }
 
 /// What one improvement round comes to.
@@ -90,27 +54,15 @@ pub fn improve_once<R: Rounding>(ranking: &R, page: &Page) -> Round
     ensures keeps { Keeping (R.Ranking.ranks ranking.now) page.now.sound.table (shown page.now.figures) (shown result.page.figures) }
 {
     let sound = page.sound;
-    let ceiling = eased_ceilings(ranking, &sound, &page.figures.row, &page.figures.ceiling);
-    let mut row = page.figures.row;
-    let mut gave_way = 0;
-    for i in 0..sound.table.grades {
-        match better_row(ranking, &sound, i + 1, &page.figures.row, &ceiling) {
-            Some(better) => {
-                row[i] = better;
-                gave_way += 1;
-            }
-            None => {}
-        }
-    }
-    let floor = page.figures.floor;
-    let figures = Figures {
-        row,
-        floor,
-        ceiling,
-    };
+    let mut figures = page.figures;
+    let eased = per_grade(&sound, |grade| eased_ceiling(ranking, grade, &figures));
+    let ceilings = replaced(&figures.ceiling.at, |i| eased[i]);
+    figures.ceiling = Column { at: ceilings };
+    let better = per_grade(&sound, |grade| better_row(ranking, grade, &figures));
+    figures.row = replaced(&figures.row, |i| better[i]);
     Round {
         page: Page { sound, figures },
-        gave_way,
+        gave_way: count_given(&better),
     }
 }
 

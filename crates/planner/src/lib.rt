@@ -5,6 +5,7 @@
 mod bounds;
 mod choice;
 mod filing;
+mod grades;
 mod improve;
 mod start;
 mod sweep;

@@ -1,12 +1,14 @@
 ghost use Rattle.std.specs.Prelude.{◌≡◌, IfSome};
-ghost use Rattle.table.specs.Ranges.{Within, FigureIn};
+ghost use Rattle.table.specs.Ranges.{FigureIn};
 ghost use Rattle.table.specs.Lookahead.{figure_at, scaling};
+ghost use Rattle.planner.specs.Grades.{ChoiceIn};
 ghost use Rattle.planner.specs.Keeping.{Keeping};
 ghost use Rattle.planner.specs.Sweeps.{applied, raised, lowered, lowered_row, lowered_cost, floors_move, ceilings_move, shown, sweep_of, moves, sweeps};
 
 use crate::choice::{Choice, cheapest_row};
+use crate::grades::{per_grade, revised, some_given};
 use rankings::{Divisor, Rounding};
-use table::{Column, Figures, Page, SoundTable};
+use table::{Column, Figures, Grade, Page, SoundTable};
 
 /// b · D, by which X is divided to give a figure.
 pub(crate) fn divisor(sound: &SoundTable) -> Divisor
@@ -17,67 +19,40 @@ pub(crate) fn divisor(sound: &SoundTable) -> Divisor
     }
 }
 
-/// The floor of the grade g after a sweep, if the sweep raises it.
+/// The grade's floor after a sweep, if the sweep raises it.
 fn raised_floor<R: Rounding>(
     ranking: &R,
-    sound: &SoundTable,
-    g: usize,
+    grade: Grade<'_>,
     floors: &Column,
 ) -> Option<(i64, i64)>
-    requires { Within 1 sound.now.table.grades g }
-    ensures is { result ≡ raised (R.Ranking.ranks ranking.now) (R.cheap ranking.now) (R.dear ranking.now) sound.now.table (figure_at floors.now.at) g }
+    ensures is { result ≡ raised (R.Ranking.ranks ranking.now) (R.cheap ranking.now) (R.dear ranking.now) grade.entry.sound.now.table (figure_at floors.now.at) grade.entry.number }
     ensures within { IfSome result FigureIn }
 {
-    let best = cheapest_row(ranking, sound, g, floors)?;
-    let floor = ranking.round_cheap(best.cost, divisor(sound));
-    if ranking.dearer(floor, floors.at[g - 1]) {
-        Some(floor)
-    } else {
-        None
-    }
+    let best = cheapest_row(ranking, grade.sound, grade.number, floors)?;
+    let floor = ranking.round_cheap(best.cost, divisor(grade.sound));
+    ranking
+        .dearer(floor, grade.figure(floors))
+        .then_some(floor)
 }
 
-/// The ceiling of the grade g after a sweep with the row that it is for, if the sweep lowers it.
+/// The grade's ceiling after a sweep with the row that it is for, if the sweep lowers it.
 fn lowered_ceiling<R: Rounding>(
     ranking: &R,
-    sound: &SoundTable,
-    g: usize,
+    grade: Grade<'_>,
     ceilings: &Column,
 ) -> Option<Choice>
-    requires { Within 1 sound.now.table.grades g }
-    ensures is { result ≡ lowered (R.Ranking.ranks ranking.now) (R.cheap ranking.now) (R.dear ranking.now) sound.now.table (figure_at ceilings.now.at) g }
-    ensures within { IfSome result (λ c. FigureIn c.cost) }
-    ensures row { IfSome result (λ c. Within 1 sound.now.table.rows c.row) }
+    ensures is { result ≡ lowered (R.Ranking.ranks ranking.now) (R.cheap ranking.now) (R.dear ranking.now) grade.entry.sound.now.table (figure_at ceilings.now.at) grade.entry.number }
+    ensures within { IfSome result (ChoiceIn grade.entry.sound.now.table.rows) }
 {
-    let best = cheapest_row(ranking, sound, g, ceilings)?;
-    let cost = ranking.round_dear(best.cost, divisor(sound));
-    if ranking.cheaper(cost, ceilings.at[g - 1]) {
-        Some(Choice {
-            row: best.row,
-            cost,
-        })
-    } else {
-        None
-    }
-}
-
-/// All floors after a sweep, and whether some floor changed.
-fn swept_floors<R: Rounding>(ranking: &R, sound: &SoundTable, floors: &Column) -> (Column, bool)
-    ensures after { result.0.at ≡ applied (raised (R.Ranking.ranks ranking.now) (R.cheap ranking.now) (R.dear ranking.now) sound.now.table (figure_at floors.now.at)) sound.now.table.grades floors.now.at }
-    ensures moved { result.1 ≡ floors_move (R.Ranking.ranks ranking.now) (R.cheap ranking.now) (R.dear ranking.now) sound.now.table floors.now.at sound.now.table.grades }
-{
-    let mut at = floors.at;
-    let mut moved = false;
-    for i in 0..sound.table.grades {
-        match raised_floor(ranking, sound, i + 1, floors) {
-            Some(floor) => {
-                at[i] = floor;
-                moved = true;
-            }
-            None => {}
-        }
-    }
-    (Column { at }, moved)
+    let best = cheapest_row(ranking, grade.sound, grade.number, ceilings)?;
+    let cost = ranking.round_dear(best.cost, divisor(grade.sound));
+    let choice = Choice {
+        row: best.row,
+        cost,
+    };
+    ranking
+        .cheaper(cost, grade.figure(ceilings))
+        .then_some(choice)
 }
 
 /// What one sweep comes to.
@@ -95,30 +70,12 @@ pub fn sweep_once<R: Rounding>(ranking: &R, page: &Page) -> Sweep
     ensures moved { result.moved ≡ moves (R.Ranking.ranks ranking.now) (R.cheap ranking.now) (R.dear ranking.now) page.now.sound.table (shown page.now.figures) }
     ensures keeps { Keeping (R.Ranking.ranks ranking.now) page.now.sound.table (shown page.now.figures) (shown result.page.figures) }
 {
-    let sound = page.sound;
-    let (floor, floors_moved) = swept_floors(ranking, &sound, &page.figures.floor);
-    let mut row = page.figures.row;
-    let mut at = page.figures.ceiling.at;
-    let mut ceilings_moved = false;
-    for i in 0..sound.table.grades {
-        match lowered_ceiling(ranking, &sound, i + 1, &page.figures.ceiling) {
-            Some(choice) => {
-                at[i] = choice.cost;
-                row[i] = choice.row;
-                ceilings_moved = true;
-            }
-            None => {}
-        }
-    }
-    let ceiling = Column { at };
-    let figures = Figures {
-        row,
-        floor,
-        ceiling,
-    };
+    let Page { sound, figures } = page;
+    let raised = per_grade(sound, |grade| raised_floor(ranking, grade, &figures.floor));
+    let lowered = per_grade(sound, |grade| lowered_ceiling(ranking, grade, &figures.ceiling));
     Sweep {
-        page: Page { sound, figures },
-        moved: floors_moved || ceilings_moved,
+        page: revised(page, &raised, &lowered),
+        moved: some_given(&raised) | some_given(&lowered),
     }
 }
 
