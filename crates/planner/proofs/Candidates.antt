@@ -13,7 +13,7 @@ use Rattle.planner.specs.Start.{costs_from, row_costs, cheapest_among, dearest_a
 flipped : {le : Cost → Cost → Bool} → Ordered le → Ordered (λ a b. le b a)
 flipped o = record { total = λ a b e. o.total b a e; trans = λ a b c p q. o.trans c b a q p }
 
-dearest_flipped : (le : Cost → Cost → Bool) (w : Cost) (cs : List Cost) → dearest_among le w cs ≡ cheapest_among (λ a b. le b a) w cs
+pub dearest_flipped : (le : Cost → Cost → Bool) (w : Cost) (cs : List Cost) → dearest_among le w cs ≡ cheapest_among (λ a b. le b a) w cs
 dearest_flipped le w [] = refl
 dearest_flipped le w (c ∷ cs) = dearest_flipped le (cond (le c w) w c) cs
 

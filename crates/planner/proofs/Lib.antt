@@ -1,7 +1,6 @@
 pub mod Costs
 pub mod Cheapest
 pub mod Roundings
-pub mod Columns
 pub mod Tests
 pub mod Givens
 pub mod Repeats

@@ -29,9 +29,3 @@ module _ (le : Cost → Cost → Bool) (cheap dear : Cost → ℕ → Cost) (t :
   pub sweeps_spent : (n k : ℕ) → n ≡ 0 → after k (sweeps le cheap dear t n s) ≡ (s, (k, false))
   sweeps_spent zero k e = let count : 0 + k ≡ k = omega arith in ap (λ j. (s, (j, false))) count
   sweeps_spent (suc n) k e = absurd (omega arith)
-
-  pub sweeps_none : (n : ℕ) → after 0 (sweeps le cheap dear t n s) ≡ sweeps le cheap dear t n s
-  sweeps_none n =
-      let r = sweeps le cheap dear t n s in
-      let count : r.1.0 + 0 ≡ r.1.0 = omega arith in
-      ap (λ j. (r.0, (j, r.1.1))) count

@@ -1,5 +1,5 @@
 -- What stands at a grade's place after figures were replaced. Assumes nothing.
-use Rattle.std.proofs.Common.{◌≡◌, ℕ, zero, suc, ◌+◌, ◌-◌, ◌<◌, ◌≤◌, List, length, get_or, set, Some, None, Option, IfSome, sym, refl, ap, ◌∙◌, subst, ⊎_elim, arith}
+use Rattle.std.proofs.Common.{◌≡◌, ℕ, zero, suc, ◌+◌, ◌-◌, ◌<◌, ◌≤◌, List, length, get_or, set, Some, None, Option, IfSome, sym, refl, ap, ◌∙◌, subst, ⊎_elim, add-one, arith}
 use Rattle.std.specs.Option.{unwrap_or, option_map}
 use Rattle.std.proofs.lemmas.List.{get_or-set_same, get_or-set_other, length-set, set-get_or}
 use Rattle.std.proofs.lemmas.Bool.{cases_eq, cases_lt}
@@ -7,7 +7,6 @@ use Rattle.rankings.specs.Costs.{Cost, zero as nothing}
 use Rattle.table.specs.Ranges.{Within, FirstsIn, FigureIn, FiguresIn}
 use Rattle.table.specs.Lookahead.{figure_at}
 use Rattle.planner.specs.Sweeps.{replaced, applied}
-use Rattle.planner.proofs.Columns.{applied_some, applied_none}
 
 -- the new one, if there is one, and else the old
 abbrev pub or_old : {A : Type 0} → Option A → A → A
@@ -60,6 +59,16 @@ applied_in f n ws m long old each i h =
     subst FigureIn (sym (applied_at f n ws i nothing lt (omega (arith, long)))) (subst (λ j. FigureIn (or_old (f (i + 1)) (get_or ws j nothing))) same (each (i + 1) (omega arith, omega arith))))
     (λ ge. subst FigureIn (sym (applied_beyond f n ws i nothing ge)) (old i h))
     (cases_lt i n)
+
+applied_more : {A : Type 0} (f : ℕ → Option A) (n : ℕ) (xs : List A) → applied f (n + 1) xs ≡ replaced n (f (n + 1)) (applied f n xs)
+applied_more f n xs = simp (add-one n)
+
+-- one grade more, whose figure is replaced, or is not
+applied_some : {A : Type 0} (f : ℕ → Option A) (n : ℕ) (xs ys : List A) (x : A) → ys ≡ applied f n xs → Some x ≡ f (n + 1) → set ys n x ≡ applied f (n + 1) xs
+applied_some f n xs ys x so e = ap (λ l. set l n x) so ∙ ap (λ o. replaced n o (applied f n xs)) e ∙ sym (applied_more f n xs)
+
+applied_none : {A : Type 0} (f : ℕ → Option A) (n : ℕ) (xs ys : List A) → ys ≡ applied f n xs → None ≡ f (n + 1) → ys ≡ applied f (n + 1) xs
+applied_none f n xs ys so e = so ∙ ap (λ o. replaced n o (applied f n xs)) e ∙ sym (applied_more f n xs)
 
 -- one grade more, whose entry is written in any case: the old one, where nothing is given
 pub applied_or : {A : Type 0} (f : ℕ → Option A) (n : ℕ) (xs ys : List A) (d : A) (o : Option A) → ys ≡ applied f n xs → o ≡ f (n + 1) → set ys n (unwrap_or o (get_or xs n d)) ≡ applied f (n + 1) xs

@@ -1,29 +1,10 @@
 -- What a round makes of a grade, and rounds one after another. Assumes nothing.
-use Rattle.std.proofs.Common.{◌≡◌, ℕ, zero, suc, ◌+◌, ◌≤◌, Bool, true, false, cond, is_some, Some, None, Option, sym, ap, ◌∙◌, subst, add-one, arith}
+use Rattle.std.proofs.Common.{◌≡◌, ℕ, zero, suc, ◌+◌, ◌≤◌, Bool, true, false, cond, is_some, ap, ◌∙◌, arith}
 use Rattle.rankings.specs.Costs.{Cost}
 use Rattle.table.specs.declared.table.Table.{Table}
-use Rattle.table.specs.Lookahead.{figure_at, scaling}
+use Rattle.table.specs.Lookahead.{figure_at}
 use Rattle.planner.specs.Sweeps.{Shown}
-use Rattle.planner.specs.Improvements.{count_of, ease, eased_ceilings, given, round_of, giving_way, rounds}
-
-module _ (le : Cost → Cost → Bool) (dear : Cost → ℕ → Cost) (t : Table) (old : Cost) (o : Option Cost) (x : Cost) (e : Some x ≡ o) where
-  pub ease_yes : le old (dear x (scaling t)) ≡ false → Some (dear x (scaling t)) ≡ ease le dear t old o
-  ease_yes n = subst (λ p. Some (dear x (scaling t)) ≡ ease le dear t old p) e (simp n)
-
-  pub ease_no : le old (dear x (scaling t)) ≡ true → None ≡ ease le dear t old o
-  ease_no n = subst (λ p. None ≡ ease le dear t old p) e (simp n)
-
--- one grade more, of which the test holds, or does not
-count_more : (p : ℕ → Bool) (n : ℕ) → count_of p (n + 1) ≡ count_of p n + cond {A = ℕ} (p (n + 1)) 1 0
-count_more p n = simp (add-one n)
-
-pub count_yes : (p : ℕ → Bool) (n k : ℕ) → k ≡ count_of p n → true ≡ p (n + 1) → k + 1 ≡ count_of p (n + 1)
-count_yes p n k so e = ap (λ j. j + 1) so ∙ ap (λ b. count_of p n + cond {A = ℕ} b 1 0) e ∙ sym (count_more p n)
-
-pub count_no : (p : ℕ → Bool) (n k : ℕ) → k ≡ count_of p n → false ≡ p (n + 1) → k ≡ count_of p (n + 1)
-count_no p n k so e =
-    let plain : count_of p n ≡ count_of p n + 0 = omega arith in
-    so ∙ plain ∙ ap (λ b. count_of p n + cond {A = ℕ} b 1 0) e ∙ sym (count_more p n)
+use Rattle.planner.specs.Improvements.{count_of, eased_ceilings, given, round_of, giving_way, rounds}
 
 pub count-≤ : (p : ℕ → Bool) (n : ℕ) → count_of p n ≤ n
 count-≤ p zero = omega arith

@@ -39,21 +39,17 @@ pub fn cheapest_row<R: Ranking>(
     ensures row { IfSome result (λ c. Within 1 sound.now.table.rows c.row) }
     ensures cheapest { CheapestOf (R.ranks ranking.now) sound.now.table (figure_at figures.now.at) g result }
 {
-    let table = &sound.table;
-    if g == 0 || g > table.grades {
+    if !(1..=sound.table.grades).contains(&g) {
         return None;
     }
-    let first = table.first_row[g - 1];
-    let cost = lookahead(sound, first, figures)?;
-    let mut best = Choice { row: first, cost };
-    let mut at = table.row[first - 1].next;
-    for _turn in 1..table.rows {
-        if at == 0 {
-            break;
-        }
-        let cost = lookahead(sound, at, figures)?;
-        best = cheaper_of(ranking, best, Choice { row: at, cost });
-        at = table.row[at - 1].next;
+    let mut best = None;
+    for row in sound.table.rows_of(g) {
+        let cost = lookahead(sound, row, figures)?;
+        let next = Choice { row, cost };
+        best = Some(match best {
+            Some(best) => cheaper_of(ranking, best, next),
+            None => next,
+        });
     }
-    Some(best)
+    best
 }

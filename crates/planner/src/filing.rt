@@ -55,8 +55,14 @@ fn nearer_page<R: Ranking>(ranking: &R, standing: &Page, filed: &Page) -> Page
     ensures after { shown result.figures ≡ nearer_of (R.ranks ranking.now) (shown standing.now.figures) (shown filed.now.figures) standing.now.sound.table.grades }
 {
     let (old, new) = (&standing.figures, &filed.figures);
-    let floors = per_grade(&standing.sound, |grade| dearer_floor(ranking, grade, old, new));
-    let choices = per_grade(&standing.sound, |grade| cheaper_ceiling(ranking, grade, old, new));
+    let floors = per_grade(
+        &standing.sound,
+        |grade| dearer_floor(ranking, grade, old, new),
+    );
+    let choices = per_grade(
+        &standing.sound,
+        |grade| cheaper_ceiling(ranking, grade, old, new),
+    );
     revised(standing, &floors, &choices)
 }
 

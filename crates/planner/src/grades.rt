@@ -64,7 +64,10 @@ pub(crate) fn revised(
 {
     let Page { sound, figures } = *page;
     let floor = replaced(&figures.floor.at, |i| floors[i]);
-    let ceiling = replaced(&figures.ceiling.at, |i| choices[i].map(|choice| choice.cost));
+    let ceiling = replaced(
+        &figures.ceiling.at,
+        |i| choices[i].map(|choice| choice.cost),
+    );
     let row = replaced(&figures.row, |i| choices[i].map(|choice| choice.row));
     let figures = Figures {
         row,

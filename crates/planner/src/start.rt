@@ -1,38 +1,26 @@
-ghost use Rattle.std.specs.Prelude.{◌≡◌};
-ghost use Rattle.rankings.specs.Costs.{Within as Sized};
+ghost use Rattle.std.specs.Prelude.{◌≡◌, Bool};
+ghost use Rattle.rankings.specs.Choice.{is_cheaper};
+ghost use Rattle.rankings.specs.Costs.{Cost, Modest, Within as Sized};
 ghost use Rattle.planner.specs.Keeping.{ShownKept};
 ghost use Rattle.planner.specs.Sweeps.{shown};
-ghost use Rattle.planner.specs.Start.{cheapest_cost, dearest_cost, Extremes, Start};
+ghost use Rattle.planner.specs.Start.{cheapest_cost, Extremes, Start};
 
 use rankings::{Ranking, scale};
 use table::{Column, Figures, MAX_GRADES, Page, SoundTable, Table};
 
-/// The cheapest of zero and all row costs; among equals zero, then the lowest row.
-fn cheapest_cost<R: Ranking>(ranking: &R, table: &Table) -> (i64, i64)
-    ensures is { result ≡ cheapest_cost (R.ranks ranking.now) table.now }
+/// Of zero and all row costs the one that comes before all others; among equals zero, then the lowest row.
+fn first_cost<F: Fn((i64, i64), (i64, i64)) -> bool>(table: &Table, comes_before: F) -> (i64, i64)
+    requires { (a b : Cost) → Modest a → Modest b → F.pre comes_before a b }
+    ensures is { (le : Cost → Cost → Bool) → ((a b : Cost) (r : Bool) → F.post comes_before a b r → r ≡ is_cheaper le a b) → result ≡ cheapest_cost le table.now }
     ensures within { Sized 100000 result }
 {
-    let mut best = (0, 0);
-    for i in 0..table.rows {
-        if ranking.cheaper(table.row[i].cost, best) {
-            best = table.row[i].cost;
+    let mut first = (0, 0);
+    for row in &table.row[..table.rows] {
+        if comes_before(row.cost, first) {
+            first = row.cost;
         }
     }
-    best
-}
-
-/// The dearest of zero and all row costs; among equals zero, then the lowest row.
-fn dearest_cost<R: Ranking>(ranking: &R, table: &Table) -> (i64, i64)
-    ensures is { result ≡ dearest_cost (R.ranks ranking.now) table.now }
-    ensures within { Sized 100000 result }
-{
-    let mut worst = (0, 0);
-    for i in 0..table.rows {
-        if ranking.dearer(table.row[i].cost, worst) {
-            worst = table.row[i].cost;
-        }
-    }
-    worst
+    first
 }
 
 /// The table with the figures that every plan starts from: the same floor and the same ceiling for each grade, and its
@@ -45,18 +33,17 @@ pub fn start_page<R: Ranking>(ranking: &R, sound: &SoundTable) -> Page
 {
     let table = &sound.table;
     let unit = table.fineness * table.denominator;
-    let lowest = scale(unit, cheapest_cost(ranking, table));
-    let highest = scale(unit, dearest_cost(ranking, table));
-    let row = table.first_row;
-    let floors = [lowest; MAX_GRADES];
-    let ceilings = [highest; MAX_GRADES];
-    let floor = Column { at: floors };
-    let ceiling = Column { at: ceilings };
+    let cheapest = first_cost(table, |a, b| ranking.cheaper(a, b));
+    let dearest = first_cost(table, |a, b| ranking.dearer(a, b));
+    let floors = [scale(unit, cheapest); MAX_GRADES];
+    let ceilings = [scale(unit, dearest); MAX_GRADES];
     let figures = Figures {
-        row,
-        floor,
-        ceiling,
+        row: table.first_row,
+        floor: Column { at: floors },
+        ceiling: Column { at: ceilings },
     };
-    let sound = *sound;
-    Page { sound, figures }
+    Page {
+        sound: *sound,
+        figures,
+    }
 }

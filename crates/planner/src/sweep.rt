@@ -20,27 +20,17 @@ pub(crate) fn divisor(sound: &SoundTable) -> Divisor
 }
 
 /// The grade's floor after a sweep, if the sweep raises it.
-fn raised_floor<R: Rounding>(
-    ranking: &R,
-    grade: Grade<'_>,
-    floors: &Column,
-) -> Option<(i64, i64)>
+fn raised_floor<R: Rounding>(ranking: &R, grade: Grade<'_>, floors: &Column) -> Option<(i64, i64)>
     ensures is { result ≡ raised (R.Ranking.ranks ranking.now) (R.cheap ranking.now) (R.dear ranking.now) grade.entry.sound.now.table (figure_at floors.now.at) grade.entry.number }
     ensures within { IfSome result FigureIn }
 {
     let best = cheapest_row(ranking, grade.sound, grade.number, floors)?;
     let floor = ranking.round_cheap(best.cost, divisor(grade.sound));
-    ranking
-        .dearer(floor, grade.figure(floors))
-        .then_some(floor)
+    ranking.dearer(floor, grade.figure(floors)).then_some(floor)
 }
 
 /// The grade's ceiling after a sweep with the row that it is for, if the sweep lowers it.
-fn lowered_ceiling<R: Rounding>(
-    ranking: &R,
-    grade: Grade<'_>,
-    ceilings: &Column,
-) -> Option<Choice>
+fn lowered_ceiling<R: Rounding>(ranking: &R, grade: Grade<'_>, ceilings: &Column) -> Option<Choice>
     ensures is { result ≡ lowered (R.Ranking.ranks ranking.now) (R.cheap ranking.now) (R.dear ranking.now) grade.entry.sound.now.table (figure_at ceilings.now.at) grade.entry.number }
     ensures within { IfSome result (ChoiceIn grade.entry.sound.now.table.rows) }
 {
@@ -72,7 +62,10 @@ pub fn sweep_once<R: Rounding>(ranking: &R, page: &Page) -> Sweep
 {
     let Page { sound, figures } = page;
     let raised = per_grade(sound, |grade| raised_floor(ranking, grade, &figures.floor));
-    let lowered = per_grade(sound, |grade| lowered_ceiling(ranking, grade, &figures.ceiling));
+    let lowered = per_grade(
+        sound,
+        |grade| lowered_ceiling(ranking, grade, &figures.ceiling),
+    );
     Sweep {
         page: revised(page, &raised, &lowered),
         moved: some_given(&raised) | some_given(&lowered),

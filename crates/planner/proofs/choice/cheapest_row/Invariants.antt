@@ -1,12 +1,14 @@
-use Rattle.std.proofs.Common.{◌≡◌, ◌-◌, ◌*◌, ◌^◌, ◌≤◌, Some}
-use Rattle.rankings.specs.Costs.{Within}
-use Rattle.table.specs.Ranges.{Within as Between}
-use Rattle.table.specs.Chains.{walk, next_row}
+use Rattle.std.proofs.Common.{◌≡◌, ◌*◌, ◌^◌, length, IfSome}
+use Rattle.rankings.specs.Costs.{Within as Sized}
+use Rattle.table.specs.Ranges.{Within, row0}
 use Rattle.table.specs.Lookahead.{figure_at, scaling}
-use Rattle.planner.specs.Choices.{cheapest_from, cheapest_row}
+use Rattle.table.specs.Walks.{AllIn, ahead}
+use Rattle.planner.specs.Choices.{cheapest_row}
+use Rattle.planner.proofs.Cheapest.{cheapest_on}
 use Rattle.planner.proofs.choice.cheapest_row.Given as goal
 
-abbrev pub invariant-loop-turn : goal.invariant-loop-turn
-invariant-loop-turn g l = (l.at ≤ l.sound.table.rows) × Between 1 l.sound.table.rows l.best.row × Within (scaling l.sound.table * 10 ^ 10) l.best.cost
-    × (Some (cheapest_from (g.R.Ranking.ranks l.ranking) l.sound.table (figure_at l.figures.at) l.best (walk (next_row l.sound.table) (l.sound.table.rows - l._turn) l.at))
-    ≡ cheapest_row (g.R.Ranking.ranks l.ranking) l.sound.table (figure_at l.figures.at) l.g)
+abbrev pub invariant-loop-row : goal.invariant-loop-row
+invariant-loop-row g l = AllIn (length l.row-iterator.links.now) (ahead (λ r. r.next) row0 l.row-iterator) × AllIn l.sound.table.rows (ahead (λ r. r.next) row0 l.row-iterator)
+    × IfSome l.best (λ b. Within 1 l.sound.table.rows b.row × Sized (scaling l.sound.table * 10 ^ 10) b.cost)
+    × (cheapest_on (g.R.Ranking.ranks l.ranking) l.sound.table (figure_at l.figures.at) l.best (ahead (λ r. r.next) row0 l.row-iterator)
+    ≡ cheapest_row (g.R.Ranking.ranks l.ranking) l.sound.table (figure_at l.figures.at) l.t-3)

@@ -1,4 +1,4 @@
-use Rattle.std.proofs.Common.{◌≡◌, ◌-◌, ◌<◌, ◌≤◌, Some, None, Option, IfSome, sym, ap, ◌∙◌, subst, arith, rules}
+use Rattle.std.proofs.Common.{◌≡◌, ◌-◌, ◌≤◌, Some, None, Option, IfSome, sym, ◌∙◌, subst, arith, rules}
 use Rattle.table.specs.declared.page.Page.{Page}
 use Rattle.table.specs.declared.grade.Grade.{Grade}
 use Rattle.table.specs.Ranges.{Within, FigureIn}

@@ -1,10 +1,7 @@
-use Rattle.std.proofs.Common.{◌≡◌, ℕ, ◌+◌, ◌-◌, ◌<◌, List, get_or, length, None, Option, IfSome, sym, ap, ◌∙◌, subst, arith, rules}
+use Rattle.std.proofs.Common.{get_or, length, None, sym, ap, ◌∙◌, subst, rules}
 use Rattle.std.specs.Option.{option_map}
-use Rattle.rankings.specs.Costs.{Cost}
 use Rattle.table.specs.Ranges.{Within, FirstsIn, FigureIn, FiguresIn}
-use Rattle.planner.specs.declared.choice.Choice.{Choice}
-use Rattle.planner.specs.Grades.{AllSome, ChoiceIn, given_for, ceiling_for, row_for, revised_by}
-use Rattle.planner.specs.Sweeps.{Shown, shown, applied}
+use Rattle.planner.specs.Grades.{ChoiceIn, given_for, ceiling_for, row_for}
 use Rattle.planner.proofs.Givens.{here}
 use Rattle.planner.proofs.Replacing.{applied_long, applied_figures, applied_rows, part_holds}
 use Rattle.planner.proofs.grades.revised.Goals as goal

@@ -1,4 +1,4 @@
-use Rattle.std.proofs.Common.{◌≡◌, get_or, length, is_some, None, refl, sym, ap, ◌∙◌, subst, arith, rules}
+use Rattle.std.proofs.Common.{◌≡◌, get_or, length, is_some, None, refl, sym, ap, ◌∙◌, subst, rules}
 use Rattle.table.specs.Lookahead.{figure_at}
 use Rattle.table.specs.Ranges.{Within, FirstsIn, FigureIn, FiguresIn}
 use Rattle.table.proofs.Soundness.{sound_table}
@@ -7,7 +7,7 @@ use Rattle.planner.specs.Improvements.{count_of, eased, eased_ceilings, given, r
 use Rattle.planner.specs.Keeping.{Follows}
 use Rattle.planner.specs.Sweeps.{shown, applied}
 use Rattle.planner.proofs.Follow.{figures_in}
-use Rattle.planner.proofs.Givens.{here, given_all, given_applied, given_any, given_count}
+use Rattle.planner.proofs.Givens.{here, given_all, given_applied, given_count}
 use Rattle.planner.proofs.Replacing.{applied_long, applied_figures, applied_rows}
 use Rattle.planner.proofs.RoundSteps.{round_follows}
 use Rattle.planner.proofs.Tests.{count_given}

@@ -1,4 +1,4 @@
-use Rattle.std.proofs.Common.{◌≡◌, ◌||◌, IfSome, sym, ap, ◌∙◌, subst, arith, rules}
+use Rattle.std.proofs.Common.{◌≡◌, ◌||◌, sym, ◌∙◌, subst, rules}
 use Rattle.table.specs.Lookahead.{figure_at}
 use Rattle.table.specs.Ranges.{FigureIn}
 use Rattle.table.proofs.Soundness.{sound_table}
