@@ -5,7 +5,7 @@ ghost use Rattle.table.specs.Lookahead.{figure_at, scaling};
 ghost use Rattle.planner.specs.Choices.{cheaper_of, cheapest_row, CheapestOf};
 
 use rankings::Ranking;
-use table::{Column, SoundTable, lookahead};
+use table::{Column, Grade, SoundTable, lookahead};
 
 /// A row, and what it costs one step ahead.
 #[derive(Clone, Copy)]
@@ -42,8 +42,9 @@ pub fn cheapest_row<R: Ranking>(
     if !(1..=sound.table.grades).contains(&g) {
         return None;
     }
+    let grade = Grade { sound, number: g };
     let mut best = None;
-    for row in sound.table.rows_of(g) {
+    for row in grade.rows() {
         let cost = lookahead(sound, row, figures)?;
         let next = Choice { row, cost };
         best = Some(match best {
