@@ -1,5 +1,5 @@
 /// What is wrong with a table, and the lowest row or arc where it is: layer 2.
-#[derive(Clone, Copy)]
+#[derive(Clone, Copy, Debug, PartialEq, Eq)]
 pub enum TableFault {
     /// 4: not exactly one first-row or next index points to this row.
     RowPointers { row: usize },
@@ -14,7 +14,7 @@ pub enum TableFault {
 }
 
 /// Which rule the figures break, and at which grade and row: layer 3.
-#[derive(Clone, Copy)]
+#[derive(Clone, Copy, Debug, PartialEq, Eq)]
 pub enum FiguresFault {
     /// 9: the plan row is not one of the grade's rows.
     PlanRow { grade: usize, row: usize },
@@ -27,7 +27,7 @@ pub enum FiguresFault {
 }
 
 /// Why a filing is not taken.
-#[derive(Clone, Copy)]
+#[derive(Clone, Copy, Debug, PartialEq, Eq)]
 pub enum FilingFault {
     /// 16, layer 4: there is not one line for each grade.
     Lines,

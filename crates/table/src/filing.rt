@@ -14,7 +14,7 @@ use crate::sound::SoundTable;
 use rankings::Ranking;
 
 /// What somebody files for a grade: a plan row, a floor and a ceiling. Nothing is known of its numbers.
-#[derive(Clone, Copy)]
+#[derive(Clone, Copy, Debug, PartialEq, Eq)]
 pub struct FiledLine {
     pub row: usize,
     pub floor: (i64, i64),
