@@ -1,11 +1,12 @@
 ghost use Rattle.std.specs.Prelude.{◌≡◌};
+ghost use Rattle.book.specs.declared.refusal.Refusal.TheVariants.{Text, Table, Write};
 ghost use Rattle.book.specs.Refusals.{number_of, layer_of, places_of, text_place, table_place, figures_places, write_place};
 
 use sheet::{TextFault, WriteFault};
 use table::{FiguresFault, TableFault};
 
 /// Why a call is refused. Its number, layer and places are told by the methods; a place that is not named is 0.
-#[derive(Clone, Copy)]
+#[derive(Clone, Copy, Debug, PartialEq, Eq)]
 pub enum Refusal {
     /// 1, 2, 3 and 23, layer 1: the text of a sheet.
     Text(TextFault),
@@ -19,6 +20,30 @@ pub enum Refusal {
     Sweeps,
     /// 21 and 22, layer 4: a sheet cannot be written.
     Write(WriteFault),
+}
+
+impl From<TextFault> for Refusal {
+    ghost from_gives = { λ fault refusal. refusal ≡ Text fault };
+
+    fn from(fault: TextFault) -> Refusal {
+        Refusal::Text(fault)
+    }
+}
+
+impl From<TableFault> for Refusal {
+    ghost from_gives = { λ fault refusal. refusal ≡ Table fault };
+
+    fn from(fault: TableFault) -> Refusal {
+        Refusal::Table(fault)
+    }
+}
+
+impl From<WriteFault> for Refusal {
+    ghost from_gives = { λ fault refusal. refusal ≡ Write fault };
+
+    fn from(fault: WriteFault) -> Refusal {
+        Refusal::Write(fault)
+    }
 }
 
 impl Refusal {
