@@ -1,9 +1,11 @@
 -- What a recount comes to: a sheet is opened, swept and written. Assumes nothing.
-use Rattle.std.proofs.Common.{◌≡◌, ℕ, ◌+◌, ◌^◌, ◌<◌, ◌≤◌, true, List, [], ◌∷◌, ◌++◌, length, Some, None, Ok, Err, codes, decimal, Option, Result, refl, subst, arith}
+use Rattle.std.proofs.Common.{◌≡◌, ℕ, ◌+◌, ◌^◌, ◌<◌, ◌≤◌, true, List, [], ◌∷◌, ◌++◌, length, Some, None, Ok, Err, codes, decimal, Option, Result, append_assoc, refl, subst, arith}
 use Rattle.std.proofs.lemmas.Fmt.{length-decimal-le}
 use Rattle.std.proofs.lemmas.List.{length-append}
 use Rattle.rankings.specs.Models.{by_money, both_down, both_up}
 use Rattle.text.specs.Fields.{natural_text}
+use Rattle.text.specs.Writing.{Writes}
+use Rattle.text.proofs.Writing.{writes_then}
 use Rattle.table.specs.declared.page.Page.{Page}
 use Rattle.table.specs.declared.fault.TableFault.TheVariants.{RowPointers, LooseRow, ArcPointers, LooseArc, Weights}
 use Rattle.table.specs.declared.fault.FiguresFault.TheVariants.{PlanRow, Part, Floor, Ceiling}
@@ -15,7 +17,7 @@ use Rattle.book.specs.declared.refusal.Refusal.TheVariants.{Text, Table, Figures
 use Rattle.book.specs.Calls.{Opened, SweptBook, Written, OldLine}
 use Rattle.book.specs.Printing.{refusal_text, Recounted, RecountTold}
 use Rattle.book.proofs.Rewriting.{written_over, left_over}
-use Rattle.book.specs.Refusals.{number_of, layer_of, places_of}
+use Rattle.book.specs.Refusals.{number_of, layer_of, places_of, refusal_words}
 
 pub recounts : (sheet out after : List ℕ) (before opened swept : Option Page) (c : SweepCount) (r : Result ℕ Refusal) → Opened by_money sheet before (Ok tt) opened → SweptBook by_money both_down both_up 200 opened (Ok c) swept → Written true sheet swept out r after → Recounted sheet out r after
 recounts sheet out after before None swept c r o s w = absurd o
@@ -94,3 +96,20 @@ refusal_short e r is fits fits' =
       length-append (t ++ n) l,
       length-append t n,
     )
+
+-- the line of a refusal is what `Display` writes, and the end of the line
+pub line_displayed : (e : Refusal) → refusal_text e ≡ refusal_words e ++ 10 ∷ []
+line_displayed e = simp append_assoc
+
+-- a refusal's line in the numbers that are written
+abbrev line_of : (n l : ℕ) (places : ℕ × ℕ) → List ℕ
+line_of n l places = (((codes "no " ++ natural_text 32 n) ++ natural_text 32 l) ++ natural_text 32 places.0) ++ natural_text 10 places.1
+
+-- one field after another
+module _ (e : Refusal) (n l : ℕ) (places : ℕ × ℕ) (number : n ≡ number_of e) (layer : l ≡ layer_of e) (at : places ≡ places_of e) where
+  pub line_written : (x0 x1 x2 x3 x4 x5 : List ℕ) (a1 a2 a3 a4 : ℕ) (r : Option ℕ) → Writes x0 0 (codes "no ") (Some a1) x1 → Writes x1 a1 (natural_text 32 n) (Some a2) x2 → Writes x2 a2 (natural_text 32 l) (Some a3) x3 → Writes x3 a3 (natural_text 32 places.0) (Some a4) x4 → Writes x4 a4 (natural_text 10 places.1) r x5 → Writes x0 0 (refusal_text e) r x5
+  line_written x0 x1 x2 x3 x4 x5 a1 a2 a3 a4 r w1 w2 w3 w4 w5 =
+      let front2 = writes_then x0 0 (codes "no ") x1 a1 w1 (natural_text 32 n) (Some a2) x2 w2 in
+      let front3 = writes_then x0 0 (codes "no " ++ natural_text 32 n) x2 a2 front2 (natural_text 32 l) (Some a3) x3 w3 in
+      let front4 = writes_then x0 0 ((codes "no " ++ natural_text 32 n) ++ natural_text 32 l) x3 a3 front3 (natural_text 32 places.0) (Some a4) x4 w4 in
+      subst (λ t. Writes x0 0 t r x5) (λ i. line_of (number i) (layer i) (at i)) (writes_then x0 0 (((codes "no " ++ natural_text 32 n) ++ natural_text 32 l) ++ natural_text 32 places.0) x4 a4 front4 (natural_text 10 places.1) r x5 w5)

@@ -14,12 +14,12 @@ fn write_refusal(out: &mut [u8], refusal: &Refusal) -> Option<usize>
     ensures writes { Writes out.old 0 (refusal_text refusal.now) result out.new }
     ensures short { length (refusal_text refusal.now) ≤ 64 }
 {
-    let (first, second) = refusal.places();
     let number = u64::from(refusal.number());
-    let layer = u64::from(refusal.layer());
+    let layer = u32::from(refusal.layer());
+    let (first, second) = refusal.places();
     let at = write_bytes(out, 0, b"no ")?;
     let at = write_count(out, at, number, End::Blank)?;
-    let at = write_count(out, at, layer, End::Blank)?;
+    let at = write_count(out, at, u64::from(layer), End::Blank)?;
     let at = write_count(out, at, first as u64, End::Blank)?;
     write_count(out, at, second as u64, End::Line)
 }

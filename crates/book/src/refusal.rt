@@ -1,8 +1,11 @@
-ghost use Rattle.std.specs.Prelude.{◌≡◌};
+ghost use Rattle.std.specs.Prelude.{◌≡◌, Some};
 ghost use Rattle.book.specs.declared.refusal.Refusal.TheVariants.{Text, Table, Write};
-ghost use Rattle.book.specs.Refusals.{number_of, layer_of, places_of, text_place, table_place, figures_places, write_place};
+ghost use Rattle.book.specs.Refusals.{number_of, layer_number, layer_of, places_of, refusal_words, text_place, table_place, figures_places, write_place};
 
+use crate::layer::Layer;
 use sheet::{TextFault, WriteFault};
+use std::error::Error;
+use std::fmt;
 use table::{FiguresFault, TableFault};
 
 /// Why a call is refused. Its number, layer and places are told by the methods; a place that is not named is 0.
@@ -47,7 +50,7 @@ impl From<WriteFault> for Refusal {
 }
 
 impl Refusal {
-    /// The number by which the refusal is known.
+    /// The number by which the refusal is known: it stays a number, since users know it as one and the program prints it.
     pub fn number(&self) -> u32
         ensures { result ≡ number_of self.now }
     {
@@ -72,15 +75,15 @@ impl Refusal {
         }
     }
 
-    /// 1 text, 2 table, 3 figures, 4 book.
-    pub fn layer(&self) -> u32
-        ensures { result ≡ layer_of self.now }
+    /// Which part of the work refuses.
+    pub fn layer(&self) -> Layer
+        ensures { layer_number result ≡ layer_of self.now }
     {
         match self {
-            Refusal::Text(_) => 1,
-            Refusal::Table(_) => 2,
-            Refusal::Figures(_) => 3,
-            Refusal::NoTable | Refusal::Sweeps | Refusal::Write(_) => 4,
+            Refusal::Text(_) => Layer::Text,
+            Refusal::Table(_) => Layer::Table,
+            Refusal::Figures(_) => Layer::Figures,
+            Refusal::NoTable | Refusal::Sweeps | Refusal::Write(_) => Layer::Book,
         }
     }
 
@@ -97,6 +100,20 @@ impl Refusal {
         }
     }
 }
+
+/// As the program prints it, but for the end of the line.
+impl fmt::Display for Refusal {
+    ghost output = { λ refusal. Some (refusal_words refusal) };
+
+    fn fmt<W: fmt::Write>(&self, f: &mut fmt::Formatter<W>) -> fmt::Result {
+        let number = self.number();
+        let layer = u32::from(self.layer());
+        let (first, second) = self.places();
+        write!(f, "no {number} {layer} {first} {second}")
+    }
+}
+
+impl Error for Refusal {}
 
 fn text_place(fault: &TextFault) -> usize
     ensures { result ≡ text_place fault.now }
