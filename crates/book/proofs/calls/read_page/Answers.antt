@@ -10,22 +10,20 @@ returns-in_err-sound-clause-opens g c =
     subst (Opens (g.R.Ranking.ranks c.args.ranking.now) c.args.text.now) (sym (is ∙ ap Err of)) (c.in_ok-sheet.sheet, record { reads = c.in_ok-sheet.ensures.answered; fault = c.in_err-sound.ensures.answer })
 
 pub returns-in_default-clause-opens : goal.returns-in_default-clause-opens
-returns-in_default-clause-opens g c =
-    (
-      c.in_ok-sheet.sheet,
-      record {
-        reads = c.in_ok-sheet.ensures.answered;
-        table = ap (λ s. s.table) c.start_page.ensures.table ∙ c.in_ok-sound.ensures.answer.1;
-        faultless = c.in_ok-sound.ensures.answer.0;
-        figures = subst (FiguresOpen (g.R.Ranking.ranks c.args.ranking.now) c.args.text.now c.start_page.result) (sym c.in_default.is) c.start_page.ensures.start;
-      },
-    )
+returns-in_default-clause-opens g c = (
+  c.in_ok-sheet.sheet,
+  record {
+    reads = c.in_ok-sheet.ensures.answered;
+    table = ap (λ s. s.table) c.start_page.ensures.table ∙ c.in_ok-sound.ensures.answer.1;
+    faultless = c.in_ok-sound.ensures.answer.0;
+    figures = subst (FiguresOpen (g.R.Ranking.ranks c.args.ranking.now) c.args.text.now c.start_page.result) (sym c.in_default.is) c.start_page.ensures.start;
+  },
+)
 
 pub returns-in-Some-first_broken-clause-opens : goal.returns-in-Some-first_broken-clause-opens
 returns-in-Some-first_broken-clause-opens g c =
     let le = g.R.Ranking.ranks c.args.ranking.now in
-    let s = c.in_ok-sheet.sheet in
-    (
+    let s = c.in_ok-sheet.sheet in (
       s,
       record {
         reads = c.in_ok-sheet.ensures.answered;
@@ -35,13 +33,12 @@ returns-in-Some-first_broken-clause-opens g c =
     )
 
 pub returns-in-None-clause-opens : goal.returns-in-None-clause-opens
-returns-in-None-clause-opens g c =
-    (
-      c.in_ok-sheet.sheet,
-      record {
-        reads = c.in_ok-sheet.ensures.answered;
-        table = c.in_ok-sound.ensures.answer.1;
-        faultless = c.in_ok-sound.ensures.answer.0;
-        figures = subst (FiguresOpen (g.R.Ranking.ranks c.args.ranking.now) c.args.text.now _) (sym c.in-Some.is) (refl, sym c.in-None.ensures.is);
-      },
-    )
+returns-in-None-clause-opens g c = (
+  c.in_ok-sheet.sheet,
+  record {
+    reads = c.in_ok-sheet.ensures.answered;
+    table = c.in_ok-sound.ensures.answer.1;
+    faultless = c.in_ok-sound.ensures.answer.0;
+    figures = subst (FiguresOpen (g.R.Ranking.ranks c.args.ranking.now) c.args.text.now _) (sym c.in-Some.is) (refl, sym c.in-None.ensures.is);
+  },
+)
