@@ -3,7 +3,7 @@ use crate::damaged::*;
 use crate::edit::*;
 use crate::largest::*;
 use crate::shops::*;
-use book::{Book, MAX_SHEET, MAX_SWEEPS, RECOUNT_SWEEPS, recount};
+use book::{Book, MAX_SHEET, MAX_SWEEPS, RECOUNT_SWEEPS};
 use rankings::Money;
 use sheet::read;
 use std::alloc::Global;
@@ -22,18 +22,12 @@ fn shops_recounted(rt: HostRuntime) {
 #[test]
 fn machine_bounded(rt: HostRuntime) -> Result<(), Fail> {
     let mut out = [0; MAX_SHEET];
-    let length = recount(MACHINE, &mut out);
-    let Ok(sheet) = read(&out[..length]) else {
-        return Err(Fail::new("a recounted sheet is refused"));
-    };
-    let Some(figures) = sheet.figures else {
-        return Err(Fail::new("a recounted sheet has no figures"));
-    };
-    for k in 0..4 {
-        let (known, row) = MACHINE_KNOWN[k];
-        let known = 10 * i64::from(known);
-        assert!(rt; figures.row[k] == row);
-        assert!(rt; figures.floor.at[k].0 <= known && known <= figures.ceiling.at[k].0);
+    let sheet = read(printed(MACHINE, &mut out))?;
+    let figures = sheet.figures.ok_or("a recounted sheet has no figures")?;
+    for (k, known) in MACHINE_KNOWN.iter().enumerate() {
+        let cost = 10 * i64::from(known.coins);
+        assert!(rt; figures.row[k] == known.row);
+        assert!(rt; figures.floor.at[k].0 <= cost && cost <= figures.ceiling.at[k].0);
     }
     Ok(())
 }
@@ -87,13 +81,9 @@ fn swept_one_by_one(rt: HostRuntime) -> Result<(), Fail> {
     for lines in TWO_GRADES_SWEPT {
         assert!(rt; ends(&book, lines) && book.sweep(1).is_ok());
     }
-    match book.sweep(RECOUNT_SWEEPS) {
-        Ok(count) => {
-            assert!(rt; count.settled && count.runs == 4);
-            Ok(())
-        },
-        Err(_) => Err(Fail::new("the sweeps are refused")),
-    }
+    let count = book.sweep(RECOUNT_SWEEPS)?;
+    assert!(rt; count.settled && count.runs == 4);
+    Ok(())
 }
 
 #[test]
@@ -133,9 +123,7 @@ fn largest_kept(rt: HostRuntime) -> Result<(), Fail> {
     let mut book = Book::new(Money);
     assert!(rt; sheet.len() == 16_017 && book.open(&sheet).is_ok() && writes_again(&book, &sheet));
     let mut bare = [0; MAX_SHEET];
-    let Ok(length) = book.write(false, &sheet, &mut bare) else {
-        return Err(Fail::new("the sheet is not written without figures"));
-    };
+    let length = book.write(false, &sheet, &mut bare)?;
     assert!(rt;
         length == 14_172 && book.open(&bare[..length]).is_ok() && writes_again(&book, &sheet)
     );
