@@ -12,31 +12,20 @@ use Rattle.book.specs.declared.refusal.Refusal.{Refusal}
 use Rattle.book.specs.declared.refusal.Refusal.TheVariants.{Text, Table, Figures, NoTable, Sweeps, Write}
 use Rattle.book.specs.Calls.{Opened, SweptBook, Written, OldLine}
 use Rattle.book.specs.Printing.{refusal_text, Recounted, RecountTold}
-use Rattle.book.proofs.Rewriting.{written_over, left_over}
+use Rattle.book.proofs.Rewriting.{written_over}
 use Rattle.book.specs.Refusals.{number_of, layer_of, places_of, refusal_words}
 
-pub recounts : (sheet out after : List ℕ) (before opened swept : Option Page) (c : SweepCount) (r : Result ℕ Refusal) → Opened by_money sheet before (Ok tt) opened → SweptBook by_money both_down both_up 200 opened (Ok c) swept → Written true sheet swept out r after → Recounted sheet out r after
-recounts sheet out after before None swept c r o s w = absurd o
-recounts sheet out after before (Some p) None c r o s w = absurd s.2
-recounts sheet out after before (Some p) (Some q) c (Ok n) o s w = (q, (record { opened = p; says = o; count = c; swept = s.2 }, w))
-recounts sheet out after before (Some p) (Some q) c (Err (Write f)) o s w = left_over out sheet after q.sound.table (Some q.figures) f w
-recounts sheet out after before (Some p) (Some q) c (Err (Text f)) o s w = absurd w
-recounts sheet out after before (Some p) (Some q) c (Err (Table f)) o s w = absurd w
-recounts sheet out after before (Some p) (Some q) c (Err (Figures f)) o s w = absurd w
-recounts sheet out after before (Some p) (Some q) c (Err NoTable) o s w = absurd w
-recounts sheet out after before (Some p) (Some q) c (Err Sweeps) o s w = absurd w
-
--- what a sheet opens to is never refused by the writing
-pub recounts_told : (sheet out after : List ℕ) (before opened swept : Option Page) (c : SweepCount) (r : Result ℕ Refusal) → Opened by_money sheet before (Ok tt) opened → SweptBook by_money both_down both_up 200 opened (Ok c) swept → Written true sheet swept out r after → OldLine sheet swept r → length out ≡ 32768 → RecountTold sheet r
-recounts_told sheet out after before None swept c r o s w l long = absurd o
-recounts_told sheet out after before (Some p) None c r o s w l long = absurd s.2
-recounts_told sheet out after before (Some p) (Some q) c (Ok n) o s w l long = tt
-recounts_told sheet out after before (Some p) (Some q) c (Err (Write f)) o s w l long = absurd (written_over by_money sheet out after p q o.0 f long o.1 s.2.0 w l)
-recounts_told sheet out after before (Some p) (Some q) c (Err (Text f)) o s w l long = absurd w
-recounts_told sheet out after before (Some p) (Some q) c (Err (Table f)) o s w l long = absurd w
-recounts_told sheet out after before (Some p) (Some q) c (Err (Figures f)) o s w l long = absurd w
-recounts_told sheet out after before (Some p) (Some q) c (Err NoTable) o s w l long = absurd w
-recounts_told sheet out after before (Some p) (Some q) c (Err Sweeps) o s w l long = absurd w
+-- it is a recount, and what a sheet opens to is never refused by the writing
+pub recounts : (sheet out after : List ℕ) (before opened swept : Option Page) (c : SweepCount) (r : Result ℕ Refusal) → length out ≡ 32768 → Opened by_money sheet before (Ok tt) opened → SweptBook by_money both_down both_up 200 opened (Ok c) swept → Written true sheet swept out r after → OldLine sheet swept r → Recounted sheet out r after × RecountTold sheet r
+recounts sheet out after before None swept c r long o s w l = absurd o
+recounts sheet out after before (Some p) None c r long o s w l = absurd s.2
+recounts sheet out after before (Some p) (Some q) c (Ok n) long o s w l = ((q, (record { opened = p; says = o; count = c; swept = s.2 }, w)), tt)
+recounts sheet out after before (Some p) (Some q) c (Err (Write f)) long o s w l = absurd (written_over by_money sheet out after p q o.0 f long o.1 s.2.0 w l)
+recounts sheet out after before (Some p) (Some q) c (Err (Text f)) long o s w l = absurd w
+recounts sheet out after before (Some p) (Some q) c (Err (Table f)) long o s w l = absurd w
+recounts sheet out after before (Some p) (Some q) c (Err (Figures f)) long o s w l = absurd w
+recounts sheet out after before (Some p) (Some q) c (Err NoTable) long o s w l = absurd w
+recounts sheet out after before (Some p) (Some q) c (Err Sweeps) long o s w l = absurd w
 
 -- a natural number and the byte that ends it
 count_long : (end k n : ℕ) → 0 < k → n < 10 ^ k → n < 2 ^ 64 → length (natural_text end n) ≤ k + 1
