@@ -1,5 +1,5 @@
 -- What is so where a helper of the tests answers true, so that none can answer true always. Assumes nothing.
-use Rattle.std.specs.Prelude.{◌≡◌, ℕ, ◌<◌, Bool, true, false, List, ◌++◌, length, take, drop, get_or, pos, slice_index_or, Ok, Err, Option, Result}
+use Rattle.std.specs.Prelude.{◌≡◌, ℕ, ◌<◌, Bool, true, List, ◌++◌, length, take, drop, get_or, pos, slice_index_or, Ok, Err, Option, Result}
 use Rattle.std.specs.Borrow.{Bor}
 use Rattle.table.specs.declared.fault.FilingFault.{FilingFault}
 use Rattle.table.specs.declared.figures.Figures.{Figures}
@@ -22,11 +22,6 @@ pub record LineShown (f : Figures) (l : FiledLine) (k : ℕ) : Type 0 where
   pub row : get_or f.row k 0 ≡ l.row
   pub floor : get_or f.floor.at k (pos 0, pos 0) ≡ l.floor
   pub ceiling : get_or f.ceiling.at k (pos 0, pos 0) ≡ l.ceiling
-
--- what is owed where a test answers true
-abbrev pub Owed : Bool → Type 0 → Type 0
-Owed true P = P
-Owed false P = Unit {0}
 
 abbrev pub LinesShown : Figures → List FiledLine → Type 0
 LinesShown f ls = (k : ℕ) → k < length ls → LineShown f (slice_index_or ls k line0) k

@@ -1,6 +1,7 @@
-ghost use Rattle.std.specs.Prelude.{◌≡◌, true, false, Some, None, Ok, Err, IfSome};
+ghost use Rattle.std.specs.Prelude.{◌≡◌, true, false, Ok, Err, IfSome};
+ghost use Rattle.std.specs.Bool.{OnTrue};
 ghost use Rattle.book.specs.Refusals.{number_of, layer_of, places_of};
-ghost use Rattle.cases.specs.Shows.{Owed, Prints, Begins, Writes, Ends};
+ghost use Rattle.cases.specs.Shows.{Prints, Begins, Writes, Ends};
 
 use crate::shops::TWO_GRADES;
 use book::{Book, MAX_SHEET, Refusal, recount};
@@ -16,14 +17,14 @@ pub(crate) fn printed<'a>(sheet: &[u8], out: &'a mut [u8; MAX_SHEET]) -> &'a [u8
 
 /// Whether a recount of the sheet prints just these bytes.
 pub(crate) fn answers(sheet: &[u8], expected: &[u8]) -> bool
-    ensures { Owed result (Prints sheet.now expected.now) }
+    ensures { OnTrue result (Prints sheet.now expected.now) }
 {
     printed(sheet, &mut [0; MAX_SHEET]) == expected
 }
 
 /// Whether what a recount of the sheet prints begins with these bytes.
 pub(crate) fn begins(sheet: &[u8], expected: &[u8]) -> bool
-    ensures { Owed result (Begins sheet.now expected.now) }
+    ensures { OnTrue result (Begins sheet.now expected.now) }
 {
     printed(sheet, &mut [0; MAX_SHEET]).starts_with(expected)
 }
@@ -54,14 +55,14 @@ fn written<'a>(book: &Book<Money>, old: &[u8], out: &'a mut [u8]) -> Option<&'a 
 
 /// Whether the book of the shop of two grades, written with figures, ends with these bytes.
 pub(crate) fn ends(book: &Book<Money>, expected: &[u8]) -> bool
-    ensures { Owed result (Ends book.now.page TWO_GRADES.now expected.now) }
+    ensures { OnTrue result (Ends book.now.page TWO_GRADES.now expected.now) }
 {
     written(book, TWO_GRADES, &mut [0; 300]).is_some_and(|text| text.ends_with(expected))
 }
 
 /// Whether the book, written with figures and with this sheet's labels, is just this sheet.
 pub(crate) fn writes_again(book: &Book<Money>, sheet: &[u8]) -> bool
-    ensures { Owed result (Writes book.now.page sheet.now sheet.now) }
+    ensures { OnTrue result (Writes book.now.page sheet.now sheet.now) }
 {
     written(book, sheet, &mut [0; MAX_SHEET]) == Some(sheet)
 }

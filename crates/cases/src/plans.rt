@@ -1,7 +1,8 @@
 //! What the tests of plans do with a sheet and with pages.
 
 ghost use Rattle.std.specs.Prelude.{◌≡◌, Ok, Err, IfOk};
-ghost use Rattle.cases.specs.Shows.{Owed, Starts, Swept, LineShown, LinesShown, Answers};
+ghost use Rattle.std.specs.Bool.{OnTrue};
+ghost use Rattle.cases.specs.Shows.{Starts, Swept, LineShown, LinesShown, Answers};
 
 use planner::{start_page, sweep_once};
 use rankings::{Ranking, Rounding};
@@ -28,7 +29,7 @@ pub(crate) fn swept<R: Rounding>(ranking: &R, text: &[u8]) -> Result<Page, Fail>
 
 /// Whether the page has the line's row, floor and ceiling at the place k, from 0.
 fn shows_line(page: &Page, k: usize, line: &FiledLine) -> bool
-    ensures { Owed result (LineShown page.now.figures line.now k) }
+    ensures { OnTrue result (LineShown page.now.figures line.now k) }
 {
     k < MAX_GRADES
         && page.figures.row[k] == line.row
@@ -38,7 +39,7 @@ fn shows_line(page: &Page, k: usize, line: &FiledLine) -> bool
 
 /// Whether the first grades of the page have just these rows, floors and ceilings.
 pub(crate) fn shows(page: &Page, lines: &[FiledLine]) -> bool
-    ensures { Owed result (LinesShown page.now.figures lines.now) }
+    ensures { OnTrue result (LinesShown page.now.figures lines.now) }
 {
     lines
         .iter()
@@ -51,7 +52,7 @@ pub(crate) fn answered(
     answer: Result<Page, FilingFault>,
     due: Result<&[FiledLine], FilingFault>,
 ) -> bool
-    ensures { Owed result (Answers answer due.entry) }
+    ensures { OnTrue result (Answers answer due.entry) }
 {
     match (answer, due) {
         (Ok(page), Ok(lines)) => shows(&page, lines),
