@@ -1,7 +1,7 @@
 ghost use Rattle.std.specs.Prelude.{ℕ, ◌+◌, ◌<◌, ◌≤◌, ◌↔◌, length, IsTrue, IfOk, IfSome, IfNone};
 ghost use Rattle.cases.specs.Shows.{StandsAt, Edited};
 
-use std::alloc::{AllocError, Global};
+use std::alloc::Global;
 use std::test::Fail;
 
 /// A change to a sheet: `new` in place of the first `old`; and what a recount prints then.
@@ -27,24 +27,13 @@ fn first_place(text: &[u8], old: &[u8]) -> Option<usize>
     (0..text.len()).find(|place| stands_at(text, old, *place))
 }
 
-/// The text with `new` in place of the first `old`, or none if there is no `old` in it.
-fn edited(heap: Global, text: &[u8], old: &[u8], new: &[u8]) -> Result<Option<Vec<u8>>, AllocError>
-    ensures edited { IfOk result (λ o. IfSome o (λ v. Edited text.now old.now new.now v.items)) }
-    ensures none { IfOk result (λ o. IfNone o ((k : ℕ) → k < length text.now → StandsAt text.now old.now k → ⊥)) }
-{
-    let Some(place) = first_place(text, old) else {
-        return Ok(None);
-    };
-    let mut whole = text[..place].to_vec(heap)?;
-    whole.extend_from_slice(new)?;
-    whole.extend_from_slice(&text[place + old.len()..])?;
-    Ok(Some(whole))
-}
-
 /// The changed sheet; a test fails where the old text is not there.
 pub(crate) fn changed(heap: Global, sheet: &[u8], edit: &Edit) -> Result<Vec<u8>, Fail>
     ensures { IfOk result (λ v. Edited sheet.now edit.now.old.now edit.now.new.now v.items) }
 {
-    let text = edited(heap, sheet, edit.old, edit.new)?;
-    Ok(text.ok_or("the old text does not stand in the sheet")?)
+    let place = first_place(sheet, edit.old).ok_or("the old text does not stand in the sheet")?;
+    let mut whole = sheet[..place].to_vec(heap)?;
+    whole.extend_from_slice(edit.new)?;
+    whole.extend_from_slice(&sheet[place + edit.old.len()..])?;
+    Ok(whole)
 }
