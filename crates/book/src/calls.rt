@@ -74,7 +74,7 @@ impl<R: Rounding> Book<R> {
         ensures page { SweptBook (R.Ranking.ranks self.old.ranking) (R.cheap self.old.ranking) (R.dear self.old.ranking) n self.old.page result self.new.page }
     {
         let page = self.page.as_ref().ok_or(Refusal::NoTable)?;
-        if n == 0 || n > MAX_SWEEPS {
+        if !(1..=MAX_SWEEPS).contains(&n) {
             return Err(Refusal::Sweeps);
         }
         let swept = sweep_up_to(&self.ranking, page, n);

@@ -50,7 +50,7 @@ impl From<WriteFault> for Refusal {
 }
 
 impl Refusal {
-    /// The number by which the refusal is known: it stays a number, since users know it as one and the program prints it.
+    /// The number by which the refusal is known. It stays a number: users know the refusal by it, and it is printed.
     pub fn number(&self) -> u32
         ensures { result ≡ number_of self.now }
     {
