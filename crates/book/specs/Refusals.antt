@@ -1,5 +1,5 @@
 -- The number, the layer and the places of each refusal. Assumes nothing.
-use Rattle.std.specs.Prelude.{ℕ}
+use Rattle.std.specs.Prelude.{ℕ, List, ◌++◌, codes, decimal}
 use Rattle.lines.specs.declared.fault.TextFault.{TextFault}
 use Rattle.lines.specs.declared.fault.TextFault.TheVariants.{TooLong, Form, Range, NoLine}
 use Rattle.sheet.specs.declared.write_fault.WriteFault.{WriteFault}
@@ -8,6 +8,8 @@ use Rattle.table.specs.declared.fault.TableFault.{TableFault}
 use Rattle.table.specs.declared.fault.TableFault.TheVariants.{RowPointers, LooseRow, ArcPointers, LooseArc, Weights}
 use Rattle.table.specs.declared.fault.FiguresFault.{FiguresFault}
 use Rattle.table.specs.declared.fault.FiguresFault.TheVariants.{PlanRow, Part, Floor, Ceiling}
+use Rattle.book.specs.declared.layer.Layer.{Layer}
+use Rattle.book.specs.declared.layer.Layer.TheVariants as layer
 use Rattle.book.specs.declared.refusal.Refusal.{Refusal}
 use Rattle.book.specs.declared.refusal.Refusal.TheVariants.{Text, Table, Figures, NoTable, Sweeps, Write}
 
@@ -29,6 +31,13 @@ number_of NoTable = 12
 number_of Sweeps = 15
 number_of (Write (OldSheet l)) = 21
 number_of (Write (Room n)) = 22
+
+-- the number by which a layer is known
+abbrev pub layer_number : Layer → ℕ
+layer_number layer.Text = 1
+layer_number layer.Table = 2
+layer_number layer.Figures = 3
+layer_number layer.Book = 4
 
 -- 1 text, 2 table, 3 figures, 4 book
 abbrev pub layer_of : Refusal → ℕ
@@ -71,3 +80,7 @@ places_of (Figures f) = figures_places f
 places_of NoTable = (0, 0)
 places_of Sweeps = (0, 0)
 places_of (Write f) = (write_place f, 0)
+
+-- `no`, the number, the layer and both places, with blanks between
+abbrev pub refusal_words : Refusal → List ℕ
+refusal_words e = codes "no " ++ decimal (number_of e) ++ codes " " ++ decimal (layer_of e) ++ codes " " ++ decimal (places_of e).0 ++ codes " " ++ decimal (places_of e).1

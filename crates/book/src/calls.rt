@@ -10,7 +10,7 @@ use sheet::{read, write_page};
 use table::{Page, check_table, first_broken};
 
 /// What a call for sweeps answers.
-#[derive(Clone, Copy)]
+#[derive(Clone, Copy, Debug, PartialEq, Eq)]
 pub struct SweepCount {
     /// How many sweeps ran.
     pub runs: usize,
@@ -23,20 +23,14 @@ fn read_page<R: Ranking>(ranking: &R, text: &[u8]) -> Result<Page, Refusal>
     ensures opens { Opens (R.ranks ranking.now) text.now result }
     ensures text { IfErr result (TextTold text.now) }
 {
-    let sheet = match read(text) {
-        Ok(sheet) => sheet,
-        Err(fault) => return Err(Refusal::Text(fault)),
+    let sheet = read(text)?;
+    let sound = check_table(&sheet.table)?;
+    let Some(figures) = sheet.figures else {
+        return Ok(start_page(ranking, &sound));
     };
-    let sound = match check_table(&sheet.table) {
-        Ok(sound) => sound,
-        Err(fault) => return Err(Refusal::Table(fault)),
-    };
-    match sheet.figures {
-        None => Ok(start_page(ranking, &sound)),
-        Some(figures) => match first_broken(ranking, &sound, &figures) {
-            Some(fault) => Err(Refusal::Figures(fault)),
-            None => Ok(Page { sound, figures }),
-        },
+    match first_broken(ranking, &sound, &figures) {
+        Some(fault) => Err(Refusal::Figures(fault)),
+        None => Ok(Page { sound, figures }),
     }
 }
 
@@ -58,13 +52,8 @@ impl<R: Ranking> Book<R> {
         ensures page { Opened (R.Ranking.ranks self.old.ranking) text.now self.old.page result self.new.page }
         ensures text { IfErr result (TextTold text.now) }
     {
-        match read_page(&self.ranking, text) {
-            Ok(page) => {
-                self.page = Some(page);
-                Ok(())
-            }
-            Err(refusal) => Err(refusal),
-        }
+        self.page = Some(read_page(&self.ranking, text)?);
+        Ok(())
     }
 
     /// Writes the book's table as a sheet, with its figures or without, with the labels of an old sheet, and returns
@@ -73,13 +62,8 @@ impl<R: Ranking> Book<R> {
         ensures written { Written figured old.now self.now.page out.old result out.new }
         ensures old { OldLine old.now self.now.page result }
     {
-        let Some(page) = self.page else {
-            return Err(Refusal::NoTable);
-        };
-        match write_page(out, &page, figured, old) {
-            Ok(length) => Ok(length),
-            Err(fault) => Err(Refusal::Write(fault)),
-        }
+        let page = self.page.as_ref().ok_or(Refusal::NoTable)?;
+        Ok(write_page(out, page, figured, old)?)
     }
 }
 
@@ -89,13 +73,11 @@ impl<R: Rounding> Book<R> {
         ensures ranking { self.new.ranking ≡ self.old.ranking }
         ensures page { SweptBook (R.Ranking.ranks self.old.ranking) (R.cheap self.old.ranking) (R.dear self.old.ranking) n self.old.page result self.new.page }
     {
-        let Some(page) = self.page else {
-            return Err(Refusal::NoTable);
-        };
-        if n == 0 || n > MAX_SWEEPS {
+        let page = self.page.as_ref().ok_or(Refusal::NoTable)?;
+        if !(1..=MAX_SWEEPS).contains(&n) {
             return Err(Refusal::Sweeps);
         }
-        let swept = sweep_up_to(&self.ranking, &page, n);
+        let swept = sweep_up_to(&self.ranking, page, n);
         self.page = Some(swept.page);
         Ok(SweepCount {
             runs: swept.runs,

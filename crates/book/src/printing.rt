@@ -1,4 +1,4 @@
-ghost use Rattle.std.specs.Prelude.{◌≡◌, ◌≤◌, length};
+ghost use Rattle.std.specs.Prelude.{◌≤◌, length};
 ghost use Rattle.text.specs.Writing.{Writes};
 ghost use Rattle.book.specs.Printing.{refusal_text, Recounted, RecountTold, Printed, PrintedOnly};
 
@@ -9,25 +9,26 @@ use rankings::Money;
 use sheet::MAX_SHEET;
 use text::{End, write_bytes, write_count};
 
-/// Writes the line of a refusal: `no`, its number, its layer and both places.
+/// Writes the line of a refusal: `no`, its number, its layer and both places. By hand and not by `Display`, since no
+/// clause says that a `fmt` succeeds where there is room, and `recount` promises the line.
 fn write_refusal(out: &mut [u8], refusal: &Refusal) -> Option<usize>
     ensures writes { Writes out.old 0 (refusal_text refusal.now) result out.new }
-    ensures short { length (refusal_text refusal.now) ≤ 64 }
+    ensures short { length (refusal_text refusal.now) ≤ 67 }
 {
-    let (first, second) = refusal.places();
     let number = u64::from(refusal.number());
-    let layer = u64::from(refusal.layer());
+    let layer = u32::from(refusal.layer());
+    let (first, second) = refusal.places();
     let at = write_bytes(out, 0, b"no ")?;
     let at = write_count(out, at, number, End::Blank)?;
-    let at = write_count(out, at, layer, End::Blank)?;
+    let at = write_count(out, at, u64::from(layer), End::Blank)?;
     let at = write_count(out, at, first as u64, End::Blank)?;
     write_count(out, at, second as u64, End::Line)
 }
 
 /// Opens the sheet by money only, sweeps, and writes it with figures.
-fn recounted(sheet: &[u8], out: &mut [u8]) -> Result<usize, Refusal>
+fn recounted(sheet: &[u8], out: &mut [u8; MAX_SHEET]) -> Result<usize, Refusal>
     ensures recounted { Recounted sheet.now out.old result out.new }
-    ensures told { length out.old ≡ 32768 → RecountTold sheet.now result }
+    ensures told { RecountTold sheet.now result }
 {
     let mut book = Book::new(Money);
     book.open(sheet)?;
@@ -44,10 +45,7 @@ pub fn recount(sheet: &[u8], out: &mut [u8; MAX_SHEET]) -> usize
 {
     match recounted(sheet, out) {
         Ok(length) => length,
-        Err(refusal) => match write_refusal(out, &refusal) {
-            Some(length) => length,
-            // The buffer has room for every such line.
-            None => unreachable(),
-        },
+        // The buffer has room for every such line.
+        Err(refusal) => write_refusal(out, &refusal).unwrap(),
     }
 }

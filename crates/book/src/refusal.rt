@@ -1,11 +1,15 @@
-ghost use Rattle.std.specs.Prelude.{◌≡◌};
-ghost use Rattle.book.specs.Refusals.{number_of, layer_of, places_of, text_place, table_place, figures_places, write_place};
+ghost use Rattle.std.specs.Prelude.{◌≡◌, Some};
+ghost use Rattle.book.specs.declared.refusal.Refusal.TheVariants.{Text, Table, Write};
+ghost use Rattle.book.specs.Refusals.{number_of, layer_number, layer_of, places_of, refusal_words, text_place, table_place, figures_places, write_place};
 
+use crate::layer::Layer;
 use sheet::{TextFault, WriteFault};
+use std::error::Error;
+use std::fmt;
 use table::{FiguresFault, TableFault};
 
 /// Why a call is refused. Its number, layer and places are told by the methods; a place that is not named is 0.
-#[derive(Clone, Copy)]
+#[derive(Clone, Copy, Debug, PartialEq, Eq)]
 pub enum Refusal {
     /// 1, 2, 3 and 23, layer 1: the text of a sheet.
     Text(TextFault),
@@ -21,8 +25,32 @@ pub enum Refusal {
     Write(WriteFault),
 }
 
+impl From<TextFault> for Refusal {
+    ghost from_gives = { λ fault refusal. refusal ≡ Text fault };
+
+    fn from(fault: TextFault) -> Refusal {
+        Refusal::Text(fault)
+    }
+}
+
+impl From<TableFault> for Refusal {
+    ghost from_gives = { λ fault refusal. refusal ≡ Table fault };
+
+    fn from(fault: TableFault) -> Refusal {
+        Refusal::Table(fault)
+    }
+}
+
+impl From<WriteFault> for Refusal {
+    ghost from_gives = { λ fault refusal. refusal ≡ Write fault };
+
+    fn from(fault: WriteFault) -> Refusal {
+        Refusal::Write(fault)
+    }
+}
+
 impl Refusal {
-    /// The number by which the refusal is known.
+    /// The number by which the refusal is known. It stays a number: users know the refusal by it, and it is printed.
     pub fn number(&self) -> u32
         ensures { result ≡ number_of self.now }
     {
@@ -47,15 +75,15 @@ impl Refusal {
         }
     }
 
-    /// 1 text, 2 table, 3 figures, 4 book.
-    pub fn layer(&self) -> u32
-        ensures { result ≡ layer_of self.now }
+    /// Which part of the work refuses.
+    pub fn layer(&self) -> Layer
+        ensures { layer_number result ≡ layer_of self.now }
     {
         match self {
-            Refusal::Text(_) => 1,
-            Refusal::Table(_) => 2,
-            Refusal::Figures(_) => 3,
-            Refusal::NoTable | Refusal::Sweeps | Refusal::Write(_) => 4,
+            Refusal::Text(_) => Layer::Text,
+            Refusal::Table(_) => Layer::Table,
+            Refusal::Figures(_) => Layer::Figures,
+            Refusal::NoTable | Refusal::Sweeps | Refusal::Write(_) => Layer::Book,
         }
     }
 
@@ -72,6 +100,20 @@ impl Refusal {
         }
     }
 }
+
+/// As the program prints it, but for the end of the line.
+impl fmt::Display for Refusal {
+    ghost output = { λ refusal. Some (refusal_words refusal) };
+
+    fn fmt<W: fmt::Write>(&self, f: &mut fmt::Formatter<W>) -> fmt::Result {
+        let number = self.number();
+        let layer = u32::from(self.layer());
+        let (first, second) = self.places();
+        write!(f, "no {number} {layer} {first} {second}")
+    }
+}
+
+impl Error for Refusal {}
 
 fn text_place(fault: &TextFault) -> usize
     ensures { result ≡ text_place fault.now }

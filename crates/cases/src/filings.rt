@@ -1,12 +1,14 @@
 //! What is filed for the shop of two grades.
 
-use table::FiledLine;
+use table::FiguresFault::{Ceiling, Floor, Part, PlanRow};
+use table::FilingFault::{Figures, Lines};
+use table::{FiledLine, FilingFault};
 
-/// Filed lines; number, grade and row of the answer, zeros where they are taken; and what the start page then shows.
+/// Filed lines, and what answers them: the lines that the start page then shows, or the fault. By number the faults are
+/// 16 `Lines`, 9 `PlanRow`, 17 `Part`, 10 `Floor` and 11 `Ceiling`.
 pub(crate) struct Filing {
     pub(crate) lines: &'static [FiledLine],
-    pub(crate) answer: (u32, usize, usize),
-    pub(crate) after: &'static [FiledLine],
+    pub(crate) answer: Result<&'static [FiledLine], FilingFault>,
 }
 
 /// Filings on the start page, by money only.
@@ -25,8 +27,7 @@ pub(crate) static FILINGS: [Filing; 38] = [
                 ceiling: (30, 0),
             },
         ],
-        answer: (0, 0, 0),
-        after: &[
+        answer: Ok(&[
             FiledLine {
                 row: 1,
                 floor: (6, 0),
@@ -37,7 +38,7 @@ pub(crate) static FILINGS: [Filing; 38] = [
                 floor: (30, 0),
                 ceiling: (30, 0),
             },
-        ],
+        ]),
     },
     // Not one line for each grade.
     Filing {
@@ -46,8 +47,7 @@ pub(crate) static FILINGS: [Filing; 38] = [
             floor: (6, 0),
             ceiling: (6, 0),
         }],
-        answer: (16, 0, 0),
-        after: &[],
+        answer: Err(Lines),
     },
     Filing {
         lines: &[
@@ -67,13 +67,11 @@ pub(crate) static FILINGS: [Filing; 38] = [
                 ceiling: (30, 0),
             },
         ],
-        answer: (16, 0, 0),
-        after: &[],
+        answer: Err(Lines),
     },
     Filing {
         lines: &[],
-        answer: (16, 0, 0),
-        after: &[],
+        answer: Err(Lines),
     },
     // Their number comes before everything else.
     Filing {
@@ -82,8 +80,7 @@ pub(crate) static FILINGS: [Filing; 38] = [
             floor: (10_000_000_001, 0),
             ceiling: (5, 0),
         }],
-        answer: (16, 0, 0),
-        after: &[],
+        answer: Err(Lines),
     },
     // Floors and ceilings.
     Filing {
@@ -99,8 +96,7 @@ pub(crate) static FILINGS: [Filing; 38] = [
                 ceiling: (30, 0),
             },
         ],
-        answer: (10, 2, 3),
-        after: &[],
+        answer: Err(Figures(Floor { grade: 2, row: 3 })),
     },
     Filing {
         lines: &[
@@ -115,8 +111,7 @@ pub(crate) static FILINGS: [Filing; 38] = [
                 ceiling: (30, 0),
             },
         ],
-        answer: (10, 1, 1),
-        after: &[],
+        answer: Err(Figures(Floor { grade: 1, row: 1 })),
     },
     Filing {
         lines: &[
@@ -131,8 +126,7 @@ pub(crate) static FILINGS: [Filing; 38] = [
                 ceiling: (30, 0),
             },
         ],
-        answer: (11, 1, 1),
-        after: &[],
+        answer: Err(Figures(Ceiling { grade: 1, row: 1 })),
     },
     Filing {
         lines: &[
@@ -147,8 +141,7 @@ pub(crate) static FILINGS: [Filing; 38] = [
                 ceiling: (29, 0),
             },
         ],
-        answer: (11, 2, 3),
-        after: &[],
+        answer: Err(Figures(Ceiling { grade: 2, row: 3 })),
     },
     Filing {
         lines: &[
@@ -163,8 +156,7 @@ pub(crate) static FILINGS: [Filing; 38] = [
                 ceiling: (30, 0),
             },
         ],
-        answer: (11, 2, 2),
-        after: &[],
+        answer: Err(Figures(Ceiling { grade: 2, row: 2 })),
     },
     // A floor of a later grade comes before a ceiling.
     Filing {
@@ -180,8 +172,7 @@ pub(crate) static FILINGS: [Filing; 38] = [
                 ceiling: (30, 0),
             },
         ],
-        answer: (10, 2, 3),
-        after: &[],
+        answer: Err(Figures(Floor { grade: 2, row: 3 })),
     },
     // Plan rows that are not of their grade.
     Filing {
@@ -197,8 +188,7 @@ pub(crate) static FILINGS: [Filing; 38] = [
                 ceiling: (30, 0),
             },
         ],
-        answer: (9, 2, 1),
-        after: &[],
+        answer: Err(Figures(PlanRow { grade: 2, row: 1 })),
     },
     Filing {
         lines: &[
@@ -213,8 +203,7 @@ pub(crate) static FILINGS: [Filing; 38] = [
                 ceiling: (30, 0),
             },
         ],
-        answer: (9, 1, 2),
-        after: &[],
+        answer: Err(Figures(PlanRow { grade: 1, row: 2 })),
     },
     Filing {
         lines: &[
@@ -229,8 +218,7 @@ pub(crate) static FILINGS: [Filing; 38] = [
                 ceiling: (30, 0),
             },
         ],
-        answer: (9, 2, 0),
-        after: &[],
+        answer: Err(Figures(PlanRow { grade: 2, row: 0 })),
     },
     Filing {
         lines: &[
@@ -245,8 +233,7 @@ pub(crate) static FILINGS: [Filing; 38] = [
                 ceiling: (30, 0),
             },
         ],
-        answer: (9, 2, 4),
-        after: &[],
+        answer: Err(Figures(PlanRow { grade: 2, row: 4 })),
     },
     Filing {
         lines: &[
@@ -261,8 +248,7 @@ pub(crate) static FILINGS: [Filing; 38] = [
                 ceiling: (30, 0),
             },
         ],
-        answer: (9, 1, 0),
-        after: &[],
+        answer: Err(Figures(PlanRow { grade: 1, row: 0 })),
     },
     Filing {
         lines: &[
@@ -277,8 +263,7 @@ pub(crate) static FILINGS: [Filing; 38] = [
                 ceiling: (30, 0),
             },
         ],
-        answer: (9, 1, 4),
-        after: &[],
+        answer: Err(Figures(PlanRow { grade: 1, row: 4 })),
     },
     // Parts beyond their range, in each place of both grades.
     Filing {
@@ -294,8 +279,7 @@ pub(crate) static FILINGS: [Filing; 38] = [
                 ceiling: (30, 0),
             },
         ],
-        answer: (17, 1, 0),
-        after: &[],
+        answer: Err(Figures(Part { grade: 1 })),
     },
     Filing {
         lines: &[
@@ -310,8 +294,7 @@ pub(crate) static FILINGS: [Filing; 38] = [
                 ceiling: (30, 0),
             },
         ],
-        answer: (17, 1, 0),
-        after: &[],
+        answer: Err(Figures(Part { grade: 1 })),
     },
     Filing {
         lines: &[
@@ -326,8 +309,7 @@ pub(crate) static FILINGS: [Filing; 38] = [
                 ceiling: (30, 0),
             },
         ],
-        answer: (17, 1, 0),
-        after: &[],
+        answer: Err(Figures(Part { grade: 1 })),
     },
     Filing {
         lines: &[
@@ -342,8 +324,7 @@ pub(crate) static FILINGS: [Filing; 38] = [
                 ceiling: (30, 0),
             },
         ],
-        answer: (17, 1, 0),
-        after: &[],
+        answer: Err(Figures(Part { grade: 1 })),
     },
     Filing {
         lines: &[
@@ -358,8 +339,7 @@ pub(crate) static FILINGS: [Filing; 38] = [
                 ceiling: (30, 0),
             },
         ],
-        answer: (17, 1, 0),
-        after: &[],
+        answer: Err(Figures(Part { grade: 1 })),
     },
     Filing {
         lines: &[
@@ -374,8 +354,7 @@ pub(crate) static FILINGS: [Filing; 38] = [
                 ceiling: (30, 0),
             },
         ],
-        answer: (17, 1, 0),
-        after: &[],
+        answer: Err(Figures(Part { grade: 1 })),
     },
     Filing {
         lines: &[
@@ -390,8 +369,7 @@ pub(crate) static FILINGS: [Filing; 38] = [
                 ceiling: (30, 0),
             },
         ],
-        answer: (17, 1, 0),
-        after: &[],
+        answer: Err(Figures(Part { grade: 1 })),
     },
     Filing {
         lines: &[
@@ -406,8 +384,7 @@ pub(crate) static FILINGS: [Filing; 38] = [
                 ceiling: (30, 0),
             },
         ],
-        answer: (17, 1, 0),
-        after: &[],
+        answer: Err(Figures(Part { grade: 1 })),
     },
     Filing {
         lines: &[
@@ -422,8 +399,7 @@ pub(crate) static FILINGS: [Filing; 38] = [
                 ceiling: (30, 0),
             },
         ],
-        answer: (17, 2, 0),
-        after: &[],
+        answer: Err(Figures(Part { grade: 2 })),
     },
     Filing {
         lines: &[
@@ -438,8 +414,7 @@ pub(crate) static FILINGS: [Filing; 38] = [
                 ceiling: (30, 0),
             },
         ],
-        answer: (17, 2, 0),
-        after: &[],
+        answer: Err(Figures(Part { grade: 2 })),
     },
     Filing {
         lines: &[
@@ -454,8 +429,7 @@ pub(crate) static FILINGS: [Filing; 38] = [
                 ceiling: (-10_000_000_001, 0),
             },
         ],
-        answer: (17, 2, 0),
-        after: &[],
+        answer: Err(Figures(Part { grade: 2 })),
     },
     Filing {
         lines: &[
@@ -470,8 +444,7 @@ pub(crate) static FILINGS: [Filing; 38] = [
                 ceiling: (30, 10_000_000_001),
             },
         ],
-        answer: (17, 2, 0),
-        after: &[],
+        answer: Err(Figures(Part { grade: 2 })),
     },
     // A plan row of a later grade comes before them, and they come before a floor.
     Filing {
@@ -487,8 +460,7 @@ pub(crate) static FILINGS: [Filing; 38] = [
                 ceiling: (30, 0),
             },
         ],
-        answer: (9, 2, 1),
-        after: &[],
+        answer: Err(Figures(PlanRow { grade: 2, row: 1 })),
     },
     Filing {
         lines: &[
@@ -503,8 +475,7 @@ pub(crate) static FILINGS: [Filing; 38] = [
                 ceiling: (10_000_000_001, 0),
             },
         ],
-        answer: (17, 2, 0),
-        after: &[],
+        answer: Err(Figures(Part { grade: 2 })),
     },
     // Parts at the ends of their range are no fault of range.
     Filing {
@@ -520,8 +491,7 @@ pub(crate) static FILINGS: [Filing; 38] = [
                 ceiling: (10_000_000_000, -10_000_000_000),
             },
         ],
-        answer: (0, 0, 0),
-        after: &[
+        answer: Ok(&[
             FiledLine {
                 row: 1,
                 floor: (0, 0),
@@ -532,7 +502,7 @@ pub(crate) static FILINGS: [Filing; 38] = [
                 floor: (0, 0),
                 ceiling: (54, 0),
             },
-        ],
+        ]),
     },
     Filing {
         lines: &[
@@ -547,8 +517,7 @@ pub(crate) static FILINGS: [Filing; 38] = [
                 ceiling: (10_000_000_000, -10_000_000_000),
             },
         ],
-        answer: (10, 1, 1),
-        after: &[],
+        answer: Err(Figures(Floor { grade: 1, row: 1 })),
     },
     Filing {
         lines: &[
@@ -563,8 +532,7 @@ pub(crate) static FILINGS: [Filing; 38] = [
                 ceiling: (-10_000_000_000, 10_000_000_000),
             },
         ],
-        answer: (11, 1, 1),
-        after: &[],
+        answer: Err(Figures(Ceiling { grade: 1, row: 1 })),
     },
     // Ties: the standing row stays, and the standing minutes.
     Filing {
@@ -580,8 +548,7 @@ pub(crate) static FILINGS: [Filing; 38] = [
                 ceiling: (54, 7),
             },
         ],
-        answer: (0, 0, 0),
-        after: &[
+        answer: Ok(&[
             FiledLine {
                 row: 1,
                 floor: (0, 0),
@@ -592,7 +559,7 @@ pub(crate) static FILINGS: [Filing; 38] = [
                 floor: (0, 0),
                 ceiling: (54, 0),
             },
-        ],
+        ]),
     },
     // A tie in one grade only.
     Filing {
@@ -608,8 +575,7 @@ pub(crate) static FILINGS: [Filing; 38] = [
                 ceiling: (54, 0),
             },
         ],
-        answer: (0, 0, 0),
-        after: &[
+        answer: Ok(&[
             FiledLine {
                 row: 1,
                 floor: (0, 0),
@@ -620,7 +586,7 @@ pub(crate) static FILINGS: [Filing; 38] = [
                 floor: (0, 0),
                 ceiling: (54, 0),
             },
-        ],
+        ]),
     },
     // A cheaper ceiling comes with its row.
     Filing {
@@ -636,8 +602,7 @@ pub(crate) static FILINGS: [Filing; 38] = [
                 ceiling: (53, 0),
             },
         ],
-        answer: (0, 0, 0),
-        after: &[
+        answer: Ok(&[
             FiledLine {
                 row: 1,
                 floor: (0, 0),
@@ -648,7 +613,7 @@ pub(crate) static FILINGS: [Filing; 38] = [
                 floor: (20, 0),
                 ceiling: (53, 0),
             },
-        ],
+        ]),
     },
     // Worse figures change nothing.
     Filing {
@@ -664,8 +629,7 @@ pub(crate) static FILINGS: [Filing; 38] = [
                 ceiling: (60, 0),
             },
         ],
-        answer: (0, 0, 0),
-        after: &[
+        answer: Ok(&[
             FiledLine {
                 row: 1,
                 floor: (0, 0),
@@ -676,6 +640,6 @@ pub(crate) static FILINGS: [Filing; 38] = [
                 floor: (0, 0),
                 ceiling: (54, 0),
             },
-        ],
+        ]),
     },
 ];

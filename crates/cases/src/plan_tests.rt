@@ -11,14 +11,14 @@ fn rounds_of_improvement(rt: HostRuntime) -> Result<(), Fail> {
     let page = started(&Money, TWO_GRADES)?;
     let round = improve_once(&Money, &page);
     assert!(rt; round.gave_way == 1);
-    for &(rounds, lines) in &TWO_GRADES_IMPROVED {
-        let improved = improve_rounds(&Money, &page, rounds);
+    for Improved { rounds, lines } in &TWO_GRADES_IMPROVED {
+        let improved = improve_rounds(&Money, &page, *rounds);
         assert!(rt;
             improved.gave_way == 1 && shows(&improved.page, lines),
             "{rounds} rounds"
         );
     }
-    assert!(rt; shows(&round.page, TWO_GRADES_IMPROVED[0].1));
+    assert!(rt; shows(&round.page, TWO_GRADES_IMPROVED[0].lines));
     Ok(())
 }
 
@@ -31,7 +31,7 @@ fn filings_answered(rt: HostRuntime) -> Result<(), Fail> {
         let taken = take_filing(&Money, &page, filing.lines);
         let due = filing.answer;
         assert!(rt;
-            answered(checked, due, filing.lines) && answered(taken, due, filing.after),
+            answered(checked, due.map(|_| filing.lines)) && answered(taken, due),
             "filing {k}, from 0"
         );
     }

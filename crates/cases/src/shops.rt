@@ -113,13 +113,30 @@ f 4 7 194530 0 194545 0\n\
 end\n\
 ";
 
-/// What each condition of the machine costs under the best plan, in whole coins, and the row that this plan names: leave,
-/// leave, overhaul, replace.
-pub(crate) const MACHINE_KNOWN: [(i32, usize); 4] = [
-    (14_949, 1),
-    (16_262, 2),
-    (18_636, 5),
-    (19_454, 7),
+/// What is known of a condition under the best plan: its cost in whole coins, and the row that this plan names.
+pub(crate) struct Known {
+    pub(crate) coins: i32,
+    pub(crate) row: usize,
+}
+
+/// The conditions of the machine: leave, leave, overhaul, replace.
+pub(crate) const MACHINE_KNOWN: [Known; 4] = [
+    Known {
+        coins: 14_949,
+        row: 1,
+    },
+    Known {
+        coins: 16_262,
+        row: 2,
+    },
+    Known {
+        coins: 18_636,
+        row: 5,
+    },
+    Known {
+        coins: 19_454,
+        row: 7,
+    },
 ];
 
 /// The last lines of the shop of two grades as it is opened, after one sweep and after two.
@@ -129,11 +146,17 @@ pub(crate) const TWO_GRADES_SWEPT: [&[u8]; 3] = [
     b"\nf 1 1 2 0 16 0\nf 2 3 27 0 41 0\nend\n",
 ];
 
+/// What so many rounds of improvement come to.
+pub(crate) struct Improved {
+    pub(crate) rounds: u32,
+    pub(crate) lines: &'static [FiledLine],
+}
+
 /// The figures of the shop of two grades after 1, 2 and 20 rounds of improvement, with money only.
-pub(crate) static TWO_GRADES_IMPROVED: [(u32, &[FiledLine]); 3] = [
-    (
-        1,
-        &[
+pub(crate) static TWO_GRADES_IMPROVED: [Improved; 3] = [
+    Improved {
+        rounds: 1,
+        lines: &[
             FiledLine {
                 row: 1,
                 floor: (0, 0),
@@ -145,10 +168,10 @@ pub(crate) static TWO_GRADES_IMPROVED: [(u32, &[FiledLine]); 3] = [
                 ceiling: (47, 0),
             },
         ],
-    ),
-    (
-        2,
-        &[
+    },
+    Improved {
+        rounds: 2,
+        lines: &[
             FiledLine {
                 row: 1,
                 floor: (0, 0),
@@ -160,10 +183,10 @@ pub(crate) static TWO_GRADES_IMPROVED: [(u32, &[FiledLine]); 3] = [
                 ceiling: (41, 0),
             },
         ],
-    ),
-    (
-        20,
-        &[
+    },
+    Improved {
+        rounds: 20,
+        lines: &[
             FiledLine {
                 row: 1,
                 floor: (0, 0),
@@ -175,7 +198,7 @@ pub(crate) static TWO_GRADES_IMPROVED: [(u32, &[FiledLine]); 3] = [
                 ceiling: (31, 0),
             },
         ],
-    ),
+    },
 ];
 
 /// One grade with two rows that cost the same money and not the same minutes; the discount is 0.

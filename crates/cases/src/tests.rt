@@ -3,7 +3,7 @@ use crate::damaged::*;
 use crate::edit::*;
 use crate::largest::*;
 use crate::shops::*;
-use book::{Book, MAX_SHEET, MAX_SWEEPS, RECOUNT_SWEEPS, recount};
+use book::{Book, MAX_SHEET, MAX_SWEEPS, RECOUNT_SWEEPS};
 use rankings::Money;
 use sheet::read;
 use std::alloc::Global;
@@ -22,30 +22,29 @@ fn shops_recounted(rt: HostRuntime) {
 #[test]
 fn machine_bounded(rt: HostRuntime) -> Result<(), Fail> {
     let mut out = [0; MAX_SHEET];
-    let length = recount(MACHINE, &mut out);
-    let Ok(sheet) = read(&out[..length]) else {
-        return Err(Fail::new("a recounted sheet is refused"));
-    };
-    let Some(figures) = sheet.figures else {
-        return Err(Fail::new("a recounted sheet has no figures"));
-    };
-    for k in 0..4 {
-        let (known, row) = MACHINE_KNOWN[k];
-        let known = 10 * i64::from(known);
-        assert!(rt; figures.row[k] == row);
-        assert!(rt; figures.floor.at[k].0 <= known && known <= figures.ceiling.at[k].0);
+    let sheet = read(printed(MACHINE, &mut out))?;
+    let figures = sheet.figures.ok_or("a recounted sheet has no figures")?;
+    for (k, known) in MACHINE_KNOWN.iter().enumerate() {
+        let cost = 10 * i64::from(known.coins);
+        assert!(rt; figures.row[k] == known.row);
+        assert!(rt; figures.floor.at[k].0 <= cost && cost <= figures.ceiling.at[k].0);
     }
     Ok(())
 }
 
-/// Passes if each change to the sheet makes a recount print its answer and nothing more.
-fn each_answered(rt: &impl Abort, heap: Global, sheet: &[u8], edits: &[Edit]) -> Result<(), Fail> {
+/// Passes if each change to the sheet makes a recount print what is due, as the closure judges it.
+fn each_due<F: Fn(&[u8], &[u8]) -> bool + Drop>(
+    rt: &impl Abort,
+    heap: Global,
+    sheet: &[u8],
+    edits: &[Edit],
+    is_due: F,
+) -> Result<(), Fail>
+    requires { F.IsAlwaysCallable is_due }
+{
     for (k, edit) in edits.iter().enumerate() {
         let text = changed(heap, sheet, edit)?;
-        assert!(rt;
-            answers(&text, edit.answer),
-            "edit {k} of its table, from 0"
-        );
+        assert!(rt; is_due(&text, edit.answer), "edit {k} of its table, from 0");
     }
     Ok(())
 }
@@ -55,29 +54,25 @@ fn text_refused(rt: HostRuntime) -> Result<(), Fail> {
     assert!(rt; answers(&[b'\n'; 32_769], b"no 1 1 0 0\n"));
     assert!(rt; answers(&[b'\n'; MAX_SHEET], b"no 2 1 1 0\n"));
     assert!(rt; answers(b"", b"no 2 1 1 0\n"));
-    each_answered(&rt, rt.alloc(), TWO_GRADES, &FORM)?;
-    each_answered(&rt, rt.alloc(), TWO_GRADES, &RANGE)
+    each_due(&rt, rt.alloc(), TWO_GRADES, &FORM, answers)?;
+    each_due(&rt, rt.alloc(), TWO_GRADES, &RANGE, answers)
 }
 
 #[test]
 fn tables_refused(rt: HostRuntime) -> Result<(), Fail> {
     assert!(rt; answers(LOOSE_ROWS, b"no 5 2 2 0\n"));
     assert!(rt; answers(LOOSE_ARCS, b"no 7 2 2 0\n"));
-    each_answered(&rt, rt.alloc(), TWO_GRADES, &TABLE)
+    each_due(&rt, rt.alloc(), TWO_GRADES, &TABLE, answers)
 }
 
 #[test]
 fn figures_refused(rt: HostRuntime) -> Result<(), Fail> {
-    each_answered(&rt, rt.alloc(), TWO_GRADES_EXACT, &FIGURES)
+    each_due(&rt, rt.alloc(), TWO_GRADES_EXACT, &FIGURES, answers)
 }
 
 #[test]
 fn ends_of_ranges_taken(rt: HostRuntime) -> Result<(), Fail> {
-    for edit in &WITHIN {
-        let text = changed(rt.alloc(), TWO_GRADES, edit)?;
-        assert!(rt; begins(&text, edit.answer));
-    }
-    Ok(())
+    each_due(&rt, rt.alloc(), TWO_GRADES, &WITHIN, begins)
 }
 
 #[test]
@@ -87,13 +82,9 @@ fn swept_one_by_one(rt: HostRuntime) -> Result<(), Fail> {
     for lines in TWO_GRADES_SWEPT {
         assert!(rt; ends(&book, lines) && book.sweep(1).is_ok());
     }
-    match book.sweep(RECOUNT_SWEEPS) {
-        Ok(count) => {
-            assert!(rt; count.settled && count.runs == 4);
-            Ok(())
-        },
-        Err(_) => Err(Fail::new("the sweeps are refused")),
-    }
+    let count = book.sweep(RECOUNT_SWEEPS)?;
+    assert!(rt; count.settled && count.runs == 4);
+    Ok(())
 }
 
 #[test]
@@ -133,9 +124,7 @@ fn largest_kept(rt: HostRuntime) -> Result<(), Fail> {
     let mut book = Book::new(Money);
     assert!(rt; sheet.len() == 16_017 && book.open(&sheet).is_ok() && writes_again(&book, &sheet));
     let mut bare = [0; MAX_SHEET];
-    let Ok(length) = book.write(false, &sheet, &mut bare) else {
-        return Err(Fail::new("the sheet is not written without figures"));
-    };
+    let length = book.write(false, &sheet, &mut bare)?;
     assert!(rt;
         length == 14_172 && book.open(&bare[..length]).is_ok() && writes_again(&book, &sheet)
     );

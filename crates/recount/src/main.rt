@@ -10,28 +10,28 @@ use std::io::{Read, Write};
 /// One byte more than the longest sheet, so that a longer one is seen to be too long.
 const MAX_INPUT: usize = MAX_SHEET + 1;
 
-/// Reads until the input ends or `bytes` is full, and returns how many bytes came.
-fn read_up_to(rt: &HostRuntime, bytes: &mut [u8]) -> io::Result<usize>
-    ensures { IfOk result (λ n. n ≤ length bytes.new) }
+/// Reads until the input ends or `bytes` is full, and returns what came. By hand, since no method of the library does
+/// it without a new failure: `read_exact` refuses an early end, and `read_to_end` asks for memory.
+fn read_up_to<'a>(rt: &HostRuntime, bytes: &'a mut [u8]) -> io::Result<&'a [u8]>
+    ensures { IfOk result (λ text. length text.now ≤ length bytes.old) }
 {
     let mut input = rt.stdin();
     let mut length = 0;
-    for _ in 0..bytes.len() {
-        let n = input.read(&mut bytes[length..])?;
-        if n == 0 {
-            break;
+    while length < bytes.len() {
+        match input.read(&mut bytes[length..])? {
+            0 => break,
+            n => length += n,
         }
-        length += n;
     }
-    Ok(length)
+    Ok(&bytes[..length])
 }
 
 fn main(rt: HostRuntime) -> io::Result<()> {
-    let mut sheet = [0u8; MAX_INPUT];
-    let length = read_up_to(&rt, &mut sheet)?;
-    let mut out = [0u8; MAX_SHEET];
-    let n = recount(&sheet[0..length], &mut out);
+    let mut bytes = [0; MAX_INPUT];
+    let sheet = read_up_to(&rt, &mut bytes)?;
+    let mut out = [0; MAX_SHEET];
+    let length = recount(sheet, &mut out);
     let mut output = rt.stdout();
-    output.write_all(&out[0..n])?;
+    output.write_all(&out[..length])?;
     output.flush()
 }

@@ -1,5 +1,8 @@
-use Rattle.std.proofs.Common.{◌≤◌, length}
+use Rattle.std.proofs.Common.{◌≡◌, ◌-◌, ◌≤◌, length}
 use Rattle.recount.proofs.read_up_to.Given as goal
 
-abbrev pub invariant-loop : goal.invariant-loop
-invariant-loop l = l.length ≤ length l.bytes
+abbrev pub invariant-loop-length : goal.invariant-loop-length
+invariant-loop-length l = (l.length ≤ length l.bytes) × (length l.bytes ≡ length l.initial.bytes)
+
+abbrev pub decreases-loop-length : goal.decreases-loop-length
+decreases-loop-length l = length l.initial.bytes - l.length

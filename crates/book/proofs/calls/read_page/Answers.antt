@@ -1,60 +1,44 @@
-use Rattle.std.proofs.Common.{sym, refl, ap, ◌∙◌, subst}
+use Rattle.std.proofs.Common.{Err, refl, sym, ap, ◌∙◌, subst}
+use Rattle.std.proofs.lemmas.Result.{err_from_is_err_and}
 use Rattle.table.specs.Rules.{figures_fault}
-use Rattle.book.specs.Calls.{FiguresOpen, FiguresBreak}
+use Rattle.book.specs.Calls.{Opens, FiguresOpen, FiguresBreak}
 use Rattle.book.proofs.calls.read_page.Goals as goal
 
-pub returns-in-Err-check_table : goal.returns-in-Err-check_table
-returns-in-Err-check_table g c = record { opens = (c.in-Ok.sheet, record { reads = c.in-Ok.ensures.answered; fault = c.in-Err-check_table.ensures.answer }); text = tt }
+pub returns-in_err-sound-clause-opens : goal.returns-in_err-sound-clause-opens
+returns-in_err-sound-clause-opens g c =
+    let (e, is, of) = err_from_is_err_and _ c.from_residual-in_err-sound.ensures.1 in
+    subst (Opens (g.R.Ranking.ranks c.args.ranking.now) c.args.text.now) (sym (is ∙ ap Err of)) (c.in_ok-sheet.sheet, record { reads = c.in_ok-sheet.ensures.answered; fault = c.in_err-sound.ensures.answer })
 
-pub returns-in-None : goal.returns-in-None
-returns-in-None g c =
-    let le = g.R.Ranking.ranks c.args.ranking.now in
-    let text = c.args.text.now in
-    record {
-      opens = (
-        c.in-Ok.sheet,
-        record {
-          reads = c.in-Ok.ensures.answered;
-          table = ap (λ s. s.table) c.start_page.ensures.table ∙ c.in-Ok-check_table.ensures.answer.1;
-          faultless = c.in-Ok-check_table.ensures.answer.0;
-          figures = subst (FiguresOpen le text c.start_page.result) (sym c.in-None.is) c.start_page.ensures.start;
-        },
-      );
-      text = tt;
-    }
+pub returns-in_default-clause-opens : goal.returns-in_default-clause-opens
+returns-in_default-clause-opens g c = (
+  c.in_ok-sheet.sheet,
+  record {
+    reads = c.in_ok-sheet.ensures.answered;
+    table = ap (λ s. s.table) c.start_page.ensures.table ∙ c.in_ok-sound.ensures.answer.1;
+    faultless = c.in_ok-sound.ensures.answer.0;
+    figures = subst (FiguresOpen (g.R.Ranking.ranks c.args.ranking.now) c.args.text.now c.start_page.result) (sym c.in_default.is) c.start_page.ensures.start;
+  },
+)
 
-pub returns-in-Some-first_broken : goal.returns-in-Some-first_broken
-returns-in-Some-first_broken g c =
+pub returns-in-Some-first_broken-clause-opens : goal.returns-in-Some-first_broken-clause-opens
+returns-in-Some-first_broken-clause-opens g c =
     let le = g.R.Ranking.ranks c.args.ranking.now in
-    let text = c.args.text.now in
-    let s = c.in-Ok.sheet in
-    let f = c.in-Some-first_broken.fault in
-    let h = c.in-Some.figures in
-    record {
-      opens = (
-        s,
-        record {
-          reads = c.in-Ok.ensures.answered;
-          faultless = c.in-Ok-check_table.ensures.answer.0;
-          fault = subst (FiguresBreak le text f s) (sym c.in-Some.is) (ap (λ t. figures_fault le t h) (sym c.in-Ok-check_table.ensures.answer.1) ∙ sym c.in-Some-first_broken.ensures.is);
-        },
-      );
-      text = tt;
-    }
+    let s = c.in_ok-sheet.sheet in (
+      s,
+      record {
+        reads = c.in_ok-sheet.ensures.answered;
+        faultless = c.in_ok-sound.ensures.answer.0;
+        fault = subst (FiguresBreak le c.args.text.now c.in-Some-first_broken.fault s) (sym c.in-Some.is) (ap (λ t. figures_fault le t c.in-Some.figures) (sym c.in_ok-sound.ensures.answer.1) ∙ sym c.in-Some-first_broken.ensures.is);
+      },
+    )
 
-pub returns-in-None-first_broken : goal.returns-in-None-first_broken
-returns-in-None-first_broken g c =
-    let le = g.R.Ranking.ranks c.args.ranking.now in
-    let text = c.args.text.now in
-    record {
-      opens = (
-        c.in-Ok.sheet,
-        record {
-          reads = c.in-Ok.ensures.answered;
-          table = c.in-Ok-check_table.ensures.answer.1;
-          faultless = c.in-Ok-check_table.ensures.answer.0;
-          figures = subst (FiguresOpen le text _) (sym c.in-Some.is) (refl, sym c.in-None-first_broken.ensures.is);
-        },
-      );
-      text = tt;
-    }
+pub returns-in-None-clause-opens : goal.returns-in-None-clause-opens
+returns-in-None-clause-opens g c = (
+  c.in_ok-sheet.sheet,
+  record {
+    reads = c.in_ok-sheet.ensures.answered;
+    table = c.in_ok-sound.ensures.answer.1;
+    faultless = c.in_ok-sound.ensures.answer.0;
+    figures = subst (FiguresOpen (g.R.Ranking.ranks c.args.ranking.now) c.args.text.now _) (sym c.in-Some.is) (refl, sym c.in-None.ensures.is);
+  },
+)

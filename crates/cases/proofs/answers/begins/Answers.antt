@@ -1,22 +1,14 @@
-use Rattle.std.proofs.Common.{replicate, length, take, drop}
+use Rattle.std.proofs.Common.{length, drop, subst}
 use Rattle.std.proofs.lemmas.Bool.Decides.{Decides-eqb}
 use Rattle.std.proofs.lemmas.Slice.Eq.{starts_is}
-use Rattle.cases.specs.Shows.{Begins}
-use Rattle.cases.proofs.Owing.{owed}
+use Rattle.cases.specs.Shows.{Prints, Begins}
+use Rattle.std.proofs.lemmas.Bool.{OnTrue_from}
 use Rattle.cases.proofs.answers.begins.Goals as goal
 
 pub returns : goal.returns
 returns c =
-    let text = take c.recount-length.result c.recount-length.new.out in
+    let sheet = c.args.sheet.now in
+    let text = c.printed.result.now in
     let bytes = c.args.expected.now in
-    owed c.starts_with.result (Begins c.args.sheet.now bytes)
-    (λ yes. record {
-      rest = drop (length bytes) text;
-      prints = record {
-        before = replicate 32768 0;
-        after = c.recount-length.new.out;
-        count = c.recount-length.result;
-        printed = c.recount-length.ensures.only;
-        front = (starts_is Decides-eqb text bytes _ c.starts_with.ensures.value).0 yes;
-      };
-    })
+    OnTrue_from c.starts_with.result (Begins sheet bytes)
+    (λ yes. record { rest = drop (length bytes) text; prints = subst (Prints sheet) ((starts_is Decides-eqb text bytes _ c.starts_with.ensures.value).0 yes) c.printed.ensures })

@@ -1,22 +1,19 @@
-use Rattle.std.proofs.Common.{◌-◌, length, take, replicate}
+use Rattle.std.proofs.Common.{◌≡◌, ◌==◌, ℕ, ◌-◌, Bool, false, List, length, take, drop, Some, None, Option, Bor, MatchOption, IfSome, sym, subst, rules}
+use Rattle.std.specs.Bool.{OnTrue}
+use Rattle.std.specs.Cmp.Lexicographic.{pointwise}
 use Rattle.std.proofs.lemmas.Bool.Decides.{Decides-eqb}
 use Rattle.std.proofs.lemmas.Slice.Eq.{ends_is}
-use Rattle.cases.specs.Shows.{Ends}
-use Rattle.cases.proofs.Owing.{owed}
+use Rattle.table.specs.declared.page.Page.{Page}
+use Rattle.cases.specs.Shows.{Writes, Ends}
+use Rattle.std.proofs.lemmas.Bool.{OnTrue_from}
 use Rattle.cases.proofs.answers.ends.Goals as goal
 
-pub returns-in-Ok : goal.returns-in-Ok
-returns-in-Ok c =
-    let text = take c.in-Ok.length c.write.new.out in
-    let bytes = c.args.expected.now in
-    owed c.ends_with.result (Ends c.args.book.now.page _ bytes)
-    (λ yes. record {
-      front = take (length text - length bytes) text;
-      writes = record {
-        before = replicate 300 0;
-        after = c.write.new.out;
-        count = c.in-Ok.length;
-        written = c.in-Ok.ensures.written;
-        front = (ends_is Decides-eqb text bytes _ c.ends_with.ensures.value).0 yes;
-      };
-    })
+-- by what was written, and by what the closure answered of it
+ends : (page : Option Page) (old bytes : List ℕ) (o : Option (Bor (List ℕ))) (r : Bool) (P : Bor (List ℕ) → Type 0) → IfSome o (λ t. Writes page old t.now) → MatchOption o (r ≡ false) P → ((t : Bor (List ℕ)) → P t → r ≡ pointwise ◌==◌ bytes (drop (length t.now - length bytes) t.now)) → OnTrue r (Ends page old bytes)
+ends page old bytes None r P w m h = subst (λ b. OnTrue b (Ends page old bytes)) (sym m) tt
+ends page old bytes (Some t) r P w m h =
+    OnTrue_from r (Ends page old bytes)
+    (λ yes. record { front = take (length t.now - length bytes) t.now; writes = subst (Writes page old) ((ends_is Decides-eqb t.now bytes r (h t m)).0 yes) w })
+
+pub returns : goal.returns
+returns c = ends _ _ _ c.written.result _ _ c.written.ensures c.is_some_and.ensures (λ t p. search rules)
