@@ -34,24 +34,24 @@ outsized_at ls i l h e =
 
 -- the lists that the lines were copied into are read as the lines are
 module _ (le : Cost → Cost → Bool) (t : Table) (ls : List FiledLine) (rows : List ℕ) (copied : Copies (λ l. l.row) 0 ls rows) where
-  pub plan_same : plan_row rows ≡ plan_row (filed_rows ls)
+  plan_same : plan_row rows ≡ plan_row (filed_rows ls)
   plan_same = λ j g. copied.1 (g - 1) j
 
-  pub stray_same : first_stray t rows ≡ first_stray t (filed_rows ls)
+  stray_same : first_stray t rows ≡ first_stray t (filed_rows ls)
   stray_same = ap (λ plan. first_pair (strays t) (λ g. plan g ∷ []) t.grades 1) plan_same
 
   module _ (ceilings : List Cost) (high : Copies (λ l. l.ceiling) zero ls ceilings) where
     pub ceilings_same : figure_at ceilings ≡ figure_at (filed_ceilings ls)
     ceilings_same = λ j g. high.1 (g - 1) j
 
-    pub ceiling_same : first_ceiling le t rows ceilings ≡ first_ceiling le t (filed_rows ls) (filed_ceilings ls)
+    ceiling_same : first_ceiling le t rows ceilings ≡ first_ceiling le t (filed_rows ls) (filed_ceilings ls)
     ceiling_same = λ j. first_pair (breaks_ceiling le t (ceilings_same j)) (λ g. plan_same j g ∷ []) t.grades 1
 
 module _ (le : Cost → Cost → Bool) (t : Table) (ls : List FiledLine) (floors : List Cost) (low : Copies (λ l. l.floor) zero ls floors) where
   pub floors_same : figure_at floors ≡ figure_at (filed_floors ls)
   floors_same = λ j g. low.1 (g - 1) j
 
-  pub floor_same : first_floor le t floors ≡ first_floor le t (filed_floors ls)
+  floor_same : first_floor le t floors ≡ first_floor le t (filed_floors ls)
   floor_same = λ j. first_pair (breaks_floor le t (floors_same j)) (rows_of t) t.grades 1
 
 -- the first fault, by what each check answers
@@ -68,33 +68,33 @@ part_none (Some g) later e = absurd (some≢none (Part g) e)
 part_none None later e = (refl, e)
 
 module _ (le : Cost → Cost → Bool) (t : Table) (ls : List FiledLine) where
-  pub fault_stray : (e : FiguresFault) → Some e ≡ or_later (first_stray t (filed_rows ls)) PlanRow None → filing_fault le t ls ≡ Some e
+  fault_stray : (e : FiguresFault) → Some e ≡ or_later (first_stray t (filed_rows ls)) PlanRow None → filing_fault le t ls ≡ Some e
   fault_stray e is = later_some (first_stray t (filed_rows ls)) PlanRow _ e is
 
   module _ (a : first_stray t (filed_rows ls) ≡ None) where
-    pub fault_part : (e : FiguresFault) → Some e ≡ or_part (lowest (outsized ls) t.grades) None → filing_fault le t ls ≡ Some e
+    fault_part : (e : FiguresFault) → Some e ≡ or_part (lowest (outsized ls) t.grades) None → filing_fault le t ls ≡ Some e
     fault_part e is = ap (λ o. or_later o PlanRow (or_part (lowest (outsized ls) t.grades) (or_later (first_floor le t (filed_floors ls)) Floor (or_later (first_ceiling le t (filed_rows ls) (filed_ceilings ls)) Ceiling None)))) a ∙ part_some (lowest (outsized ls) t.grades) _ e is
 
     module _ (b : lowest (outsized ls) t.grades ≡ None) where
       passed : filing_fault le t ls ≡ or_later (first_floor le t (filed_floors ls)) Floor (or_later (first_ceiling le t (filed_rows ls) (filed_ceilings ls)) Ceiling None)
       passed = λ j. or_later (a j) PlanRow (or_part (b j) (or_later (first_floor le t (filed_floors ls)) Floor (or_later (first_ceiling le t (filed_rows ls) (filed_ceilings ls)) Ceiling None)))
 
-      pub fault_floor : (e : FiguresFault) → Some e ≡ or_later (first_floor le t (filed_floors ls)) Floor None → filing_fault le t ls ≡ Some e
+      fault_floor : (e : FiguresFault) → Some e ≡ or_later (first_floor le t (filed_floors ls)) Floor None → filing_fault le t ls ≡ Some e
       fault_floor e is = passed ∙ later_some (first_floor le t (filed_floors ls)) Floor _ e is
 
       module _ (d : first_floor le t (filed_floors ls) ≡ None) where
         low : filing_fault le t ls ≡ or_later (first_ceiling le t (filed_rows ls) (filed_ceilings ls)) Ceiling None
         low = passed ∙ ap (λ o. or_later o Floor (or_later (first_ceiling le t (filed_rows ls) (filed_ceilings ls)) Ceiling None)) d
 
-        pub fault_ceiling : (e : FiguresFault) → Some e ≡ or_later (first_ceiling le t (filed_rows ls) (filed_ceilings ls)) Ceiling None → filing_fault le t ls ≡ Some e
+        fault_ceiling : (e : FiguresFault) → Some e ≡ or_later (first_ceiling le t (filed_rows ls) (filed_ceilings ls)) Ceiling None → filing_fault le t ls ≡ Some e
         fault_ceiling e is = low ∙ sym is
 
-        pub fault_none : first_ceiling le t (filed_rows ls) (filed_ceilings ls) ≡ None → filing_fault le t ls ≡ None
+        fault_none : first_ceiling le t (filed_rows ls) (filed_ceilings ls) ≡ None → filing_fault le t ls ≡ None
         fault_none e = low ∙ ap (λ o. or_later o Ceiling None) e
 
 -- what the checks tell of the columns that the lines were copied into
 module _ (le : Cost → Cost → Bool) (t : Table) (ls : List FiledLine) (long : length ls ≡ t.grades) (rows : List ℕ) (copied : Copies (λ l. l.row) 0 ls rows) where
-  pub plan_passed : None ≡ or_later (first_stray t rows) PlanRow None → first_stray t (filed_rows ls) ≡ None
+  plan_passed : None ≡ or_later (first_stray t rows) PlanRow None → first_stray t (filed_rows ls) ≡ None
   plan_passed e = sym (stray_same le t ls rows copied) ∙ (later_none (first_stray t rows) PlanRow None (sym e)).0
 
   pub plan_refused : (e : FiguresFault) → Some e ≡ or_later (first_stray t rows) PlanRow None → filing_fault le t ls ≡ Some e
@@ -142,7 +142,7 @@ none_outsized ls n e g h =
     let both = and_parts low high (not-false (low && high) (none_found (outsized ls) n 1 e g h.0 (omega (arith, h.1)))) in
     (figure_test (figure_at (filed_floors ls) g) both.0, figure_test (figure_at (filed_ceilings ls) g) both.1)
 
-pub outsized_none : (ls : List FiledLine) (n : ℕ) → ((g : ℕ) → Within 1 n g → FigureIn (figure_at (filed_floors ls) g) × FigureIn (figure_at (filed_ceilings ls) g)) → lowest (outsized ls) n ≡ None
+outsized_none : (ls : List FiledLine) (n : ℕ) → ((g : ℕ) → Within 1 n g → FigureIn (figure_at (filed_floors ls) g) × FigureIn (figure_at (filed_ceilings ls) g)) → lowest (outsized ls) n ≡ None
 outsized_none ls n h = search_none (outsized ls) n 1 (λ g lo hi.
     let both = h g (lo, omega arith) in
     ap not (and_from (is_figure (figure_at (filed_floors ls) g)) (is_figure (figure_at (filed_ceilings ls) g)) (test_figure (figure_at (filed_floors ls) g) both.0) (test_figure (figure_at (filed_ceilings ls) g) both.1)))
