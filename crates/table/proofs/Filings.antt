@@ -1,6 +1,7 @@
 -- Lines that are filed, and lists of what they say. Assumes nothing.
 use Rattle.std.proofs.Common.{◌≡◌, ℕ, ◌+◌, ◌-◌, ◌^◌, ◌<◌, Bool, true, not, ◌&&◌, leb, List, [], ◌∷◌, map, length, get_or, nat_abs, Some, None, Ok, Err, Option, Result, sym, refl, ap, ◌∙◌, subst, ⊎_elim, arith}
 use Rattle.std.proofs.lemmas.List.{length-map, get_or-map, get_or_past}
+use Rattle.std.proofs.lemmas.Option.{none-some}
 use Rattle.std.proofs.lemmas.Bool.{cases_lt, and_parts, and_from, leb-true, le-leb, not-false}
 use Rattle.std.specs.Result.{IsErrAnd}
 use Rattle.rankings.specs.Costs.{Cost, zero}
@@ -19,7 +20,7 @@ use Rattle.table.specs.declared.sound.SoundTable.{SoundTable}
 use Rattle.table.specs.Ranges.{Within, FirstsIn, FigureIn, FiguresIn}
 use Rattle.table.specs.Sound.{Sound}
 use Rattle.table.specs.Filing.{no_line, filed_rows, filed_floors, filed_ceilings, is_figure, outsized, Copies, or_part, filing_fault, Filed, FilingKept, FilingTells}
-use Rattle.table.proofs.Keeping.{row_in, none_planned, planned_none, none_low, low_none, none_high, high_none, later_none, some≢none}
+use Rattle.table.proofs.Keeping.{row_in, none_planned, planned_none, none_low, low_none, none_high, high_none, later_none}
 use Rattle.table.proofs.Searches.{none_found}
 use Rattle.table.proofs.Soundness.{search_none, sound_table}
 
@@ -57,14 +58,14 @@ module _ (le : Cost → Cost → Bool) (t : Table) (ls : List FiledLine) (floors
 -- the first fault, by what each check answers
 later_some : (o : Option (ℕ × ℕ)) (at : ℕ → ℕ → FiguresFault) (later : Option FiguresFault) (e : FiguresFault) → Some e ≡ or_later o at None → or_later o at later ≡ Some e
 later_some (Some p) at later e is = sym is
-later_some None at later e is = absurd (some≢none e is)
+later_some None at later e is = absurd (none-some e (sym is))
 
 part_some : (o : Option ℕ) (later : Option FiguresFault) (e : FiguresFault) → Some e ≡ or_part o None → or_part o later ≡ Some e
 part_some (Some g) later e is = sym is
-part_some None later e is = absurd (some≢none e is)
+part_some None later e is = absurd (none-some e (sym is))
 
 pub part_none : (o : Option ℕ) (later : Option FiguresFault) → or_part o later ≡ None → (o ≡ None) × (later ≡ None)
-part_none (Some g) later e = absurd (some≢none (Part g) e)
+part_none (Some g) later e = absurd (none-some (Part g) (sym e))
 part_none None later e = (refl, e)
 
 module _ (le : Cost → Cost → Bool) (t : Table) (ls : List FiledLine) where
@@ -186,4 +187,4 @@ module _ (le : Cost → Cost → Bool) (t : Table) (s : Sound t) (ls : List File
 pub filing_tells : (le : Cost → Cost → Bool) (s : SoundTable) (ls : List FiledLine) (r : Result Page FilingFault) → Filed le s ls r → FilingTells le s.table ls r
 filing_tells le s ls (Ok p) f = none_filing le s.table (sound_table s) ls f.0 f.1
 filing_tells le s ls (Err fault.Lines) f = λ k. f k.lines
-filing_tells le s ls (Err (fault.Figures e)) f = λ k. some≢none e (sym f.1 ∙ filing_none le s.table (sound_table s) ls k)
+filing_tells le s ls (Err (fault.Figures e)) f = λ k. none-some e (sym (filing_none le s.table (sound_table s) ls k) ∙ f.1)
