@@ -1,5 +1,6 @@
 -- Arrays that hold one thing of each filed line. Assumes nothing.
-use Rattle.std.proofs.Common.{◌≡◌, ℕ, zero, suc, ◌+◌, ◌<◌, ◌≤◌, List, [], ◌∷◌, map, length, get_or, sym, refl, ap, ◌∙◌, subst, ⊎_elim, arith}
+use Rattle.std.proofs.Common.{◌≡◌, ℕ, zero, suc, ◌+◌, ◌<◌, ◌≤◌, List, map, length, get_or, sym, ap, ◌∙◌, subst, ⊎_elim, arith}
+use Rattle.std.proofs.Math.ListN.{get_or-map}
 use Rattle.std.proofs.lemmas.List.{length-map, get_or_past}
 use Rattle.std.proofs.lemmas.Bool.{cases_eq, cases_lt}
 use Rattle.std.specs.Array.{IsFromFnResultFrom, IsFromFnResult}
@@ -7,11 +8,6 @@ use Rattle.std.specs.Fn.{Called}
 use denote.Param.Members.{Mut}
 use Rattle.table.specs.declared.filing.FiledLine.{FiledLine}
 use Rattle.table.specs.Filing.{no_line, Copies}
-
-read_map : {A : Type 0} (f : FiledLine → A) (d : A) → f no_line ≡ d → (ls : List FiledLine) (i : ℕ) → f (get_or ls i no_line) ≡ get_or (map f ls) i d
-read_map f d e [] i = e
-read_map f d e (l ∷ ls) zero = refl
-read_map f d e (l ∷ ls) (suc i) = read_map f d e ls i
 
 -- an array made by calls that each read a line
 module _ {A F : Type 0} (g : Mut F (ℕ × Unit {0}) A) (h : F) (f : FiledLine → A) (d : A) (e : f no_line ≡ d) (ls : List FiledLine)
@@ -21,7 +17,7 @@ module _ {A F : Type 0} (g : Mut F (ℕ × Unit {0}) A) (h : F) (f : FiledLine �
   filled xs a (suc n) each i lo hi =
       let call = reads a each.1 each.0 each.3 in
       ⊎_elim
-      (λ same. ap (λ j. get_or xs j d) same ∙ each.2.1 d ∙ call.1 ∙ read_map f d e ls a ∙ ap (λ j. get_or (map f ls) j d) (sym same))
+      (λ same. ap (λ j. get_or xs j d) same ∙ each.2.1 d ∙ call.1 ∙ sym (get_or-map f ls a no_line) ∙ ap (get_or (map f ls) a) e ∙ ap (λ j. get_or (map f ls) j d) (sym same))
       (λ apart. filled xs (a + 1) n (subst (λ q. IsFromFnResultFrom g q xs (a + 1) n) call.0 each.4) i (omega arith) (omega arith))
       (cases_eq i a)
 

@@ -1,6 +1,7 @@
 -- Lines that are filed, and lists of what they say. Assumes nothing.
 use Rattle.std.proofs.Common.{◌≡◌, ℕ, ◌+◌, ◌-◌, ◌^◌, ◌<◌, Bool, true, not, ◌&&◌, leb, List, [], ◌∷◌, map, length, get_or, nat_abs, Some, None, Ok, Err, Option, Result, sym, refl, ap, ◌∙◌, subst, ⊎_elim, arith}
 use Rattle.std.proofs.lemmas.List.{length-map, get_or-map, get_or_past}
+use Rattle.std.proofs.lemmas.Option.{none-some}
 use Rattle.std.proofs.lemmas.Bool.{cases_lt, and_parts, and_from, leb-true, le-leb, not-false}
 use Rattle.std.specs.Result.{IsErrAnd}
 use Rattle.rankings.specs.Costs.{Cost, zero}
@@ -19,7 +20,7 @@ use Rattle.table.specs.declared.sound.SoundTable.{SoundTable}
 use Rattle.table.specs.Ranges.{Within, FirstsIn, FigureIn, FiguresIn}
 use Rattle.table.specs.Sound.{Sound}
 use Rattle.table.specs.Filing.{no_line, filed_rows, filed_floors, filed_ceilings, is_figure, outsized, Copies, or_part, filing_fault, Filed, FilingKept, FilingTells}
-use Rattle.table.proofs.Keeping.{row_in, none_planned, planned_none, none_low, low_none, none_high, high_none, later_none, some≢none}
+use Rattle.table.proofs.Keeping.{row_in, none_planned, planned_none, none_low, low_none, none_high, high_none, later_none}
 use Rattle.table.proofs.Searches.{none_found}
 use Rattle.table.proofs.Soundness.{search_none, sound_table}
 
@@ -34,63 +35,94 @@ outsized_at ls i l h e =
 
 -- the lists that the lines were copied into are read as the lines are
 module _ (le : Cost → Cost → Bool) (t : Table) (ls : List FiledLine) (rows : List ℕ) (copied : Copies (λ l. l.row) 0 ls rows) where
-  pub plan_same : plan_row rows ≡ plan_row (filed_rows ls)
+  plan_same : plan_row rows ≡ plan_row (filed_rows ls)
   plan_same = λ j g. copied.1 (g - 1) j
 
-  pub stray_same : first_stray t rows ≡ first_stray t (filed_rows ls)
+  stray_same : first_stray t rows ≡ first_stray t (filed_rows ls)
   stray_same = ap (λ plan. first_pair (strays t) (λ g. plan g ∷ []) t.grades 1) plan_same
 
   module _ (ceilings : List Cost) (high : Copies (λ l. l.ceiling) zero ls ceilings) where
     pub ceilings_same : figure_at ceilings ≡ figure_at (filed_ceilings ls)
     ceilings_same = λ j g. high.1 (g - 1) j
 
-    pub ceiling_same : first_ceiling le t rows ceilings ≡ first_ceiling le t (filed_rows ls) (filed_ceilings ls)
+    ceiling_same : first_ceiling le t rows ceilings ≡ first_ceiling le t (filed_rows ls) (filed_ceilings ls)
     ceiling_same = λ j. first_pair (breaks_ceiling le t (ceilings_same j)) (λ g. plan_same j g ∷ []) t.grades 1
 
 module _ (le : Cost → Cost → Bool) (t : Table) (ls : List FiledLine) (floors : List Cost) (low : Copies (λ l. l.floor) zero ls floors) where
   pub floors_same : figure_at floors ≡ figure_at (filed_floors ls)
   floors_same = λ j g. low.1 (g - 1) j
 
-  pub floor_same : first_floor le t floors ≡ first_floor le t (filed_floors ls)
+  floor_same : first_floor le t floors ≡ first_floor le t (filed_floors ls)
   floor_same = λ j. first_pair (breaks_floor le t (floors_same j)) (rows_of t) t.grades 1
 
 -- the first fault, by what each check answers
 later_some : (o : Option (ℕ × ℕ)) (at : ℕ → ℕ → FiguresFault) (later : Option FiguresFault) (e : FiguresFault) → Some e ≡ or_later o at None → or_later o at later ≡ Some e
 later_some (Some p) at later e is = sym is
-later_some None at later e is = absurd (some≢none e is)
+later_some None at later e is = absurd (none-some e (sym is))
 
 part_some : (o : Option ℕ) (later : Option FiguresFault) (e : FiguresFault) → Some e ≡ or_part o None → or_part o later ≡ Some e
 part_some (Some g) later e is = sym is
-part_some None later e is = absurd (some≢none e is)
+part_some None later e is = absurd (none-some e (sym is))
 
 pub part_none : (o : Option ℕ) (later : Option FiguresFault) → or_part o later ≡ None → (o ≡ None) × (later ≡ None)
-part_none (Some g) later e = absurd (some≢none (Part g) e)
+part_none (Some g) later e = absurd (none-some (Part g) (sym e))
 part_none None later e = (refl, e)
 
 module _ (le : Cost → Cost → Bool) (t : Table) (ls : List FiledLine) where
-  pub fault_stray : (e : FiguresFault) → Some e ≡ or_later (first_stray t (filed_rows ls)) PlanRow None → filing_fault le t ls ≡ Some e
+  fault_stray : (e : FiguresFault) → Some e ≡ or_later (first_stray t (filed_rows ls)) PlanRow None → filing_fault le t ls ≡ Some e
   fault_stray e is = later_some (first_stray t (filed_rows ls)) PlanRow _ e is
 
   module _ (a : first_stray t (filed_rows ls) ≡ None) where
-    pub fault_part : (e : FiguresFault) → Some e ≡ or_part (lowest (outsized ls) t.grades) None → filing_fault le t ls ≡ Some e
+    fault_part : (e : FiguresFault) → Some e ≡ or_part (lowest (outsized ls) t.grades) None → filing_fault le t ls ≡ Some e
     fault_part e is = ap (λ o. or_later o PlanRow (or_part (lowest (outsized ls) t.grades) (or_later (first_floor le t (filed_floors ls)) Floor (or_later (first_ceiling le t (filed_rows ls) (filed_ceilings ls)) Ceiling None)))) a ∙ part_some (lowest (outsized ls) t.grades) _ e is
 
     module _ (b : lowest (outsized ls) t.grades ≡ None) where
       passed : filing_fault le t ls ≡ or_later (first_floor le t (filed_floors ls)) Floor (or_later (first_ceiling le t (filed_rows ls) (filed_ceilings ls)) Ceiling None)
       passed = λ j. or_later (a j) PlanRow (or_part (b j) (or_later (first_floor le t (filed_floors ls)) Floor (or_later (first_ceiling le t (filed_rows ls) (filed_ceilings ls)) Ceiling None)))
 
-      pub fault_floor : (e : FiguresFault) → Some e ≡ or_later (first_floor le t (filed_floors ls)) Floor None → filing_fault le t ls ≡ Some e
+      fault_floor : (e : FiguresFault) → Some e ≡ or_later (first_floor le t (filed_floors ls)) Floor None → filing_fault le t ls ≡ Some e
       fault_floor e is = passed ∙ later_some (first_floor le t (filed_floors ls)) Floor _ e is
 
       module _ (d : first_floor le t (filed_floors ls) ≡ None) where
         low : filing_fault le t ls ≡ or_later (first_ceiling le t (filed_rows ls) (filed_ceilings ls)) Ceiling None
         low = passed ∙ ap (λ o. or_later o Floor (or_later (first_ceiling le t (filed_rows ls) (filed_ceilings ls)) Ceiling None)) d
 
-        pub fault_ceiling : (e : FiguresFault) → Some e ≡ or_later (first_ceiling le t (filed_rows ls) (filed_ceilings ls)) Ceiling None → filing_fault le t ls ≡ Some e
+        fault_ceiling : (e : FiguresFault) → Some e ≡ or_later (first_ceiling le t (filed_rows ls) (filed_ceilings ls)) Ceiling None → filing_fault le t ls ≡ Some e
         fault_ceiling e is = low ∙ sym is
 
-        pub fault_none : first_ceiling le t (filed_rows ls) (filed_ceilings ls) ≡ None → filing_fault le t ls ≡ None
+        fault_none : first_ceiling le t (filed_rows ls) (filed_ceilings ls) ≡ None → filing_fault le t ls ≡ None
         fault_none e = low ∙ ap (λ o. or_later o Ceiling None) e
+
+-- what the checks tell of the columns that the lines were copied into
+module _ (le : Cost → Cost → Bool) (t : Table) (ls : List FiledLine) (long : length ls ≡ t.grades) (rows : List ℕ) (copied : Copies (λ l. l.row) 0 ls rows) where
+  plan_passed : None ≡ or_later (first_stray t rows) PlanRow None → first_stray t (filed_rows ls) ≡ None
+  plan_passed e = sym (stray_same le t ls rows copied) ∙ (later_none (first_stray t rows) PlanRow None (sym e)).0
+
+  pub plan_refused : (e : FiguresFault) → Some e ≡ or_later (first_stray t rows) PlanRow None → filing_fault le t ls ≡ Some e
+  plan_refused e is = fault_stray le t ls e (is ∙ ap (λ o. or_later o PlanRow None) (stray_same le t ls rows copied))
+
+  module _ (plan : None ≡ or_later (first_stray t rows) PlanRow None) where
+    pub part_refused : (e : FiguresFault) → Some e ≡ or_part (lowest (outsized ls) (length ls)) None → filing_fault le t ls ≡ Some e
+    part_refused e is = fault_part le t ls (plan_passed plan) e (is ∙ ap (λ n. or_part (lowest (outsized ls) n) None) long)
+
+    module _ (ranges : None ≡ or_part (lowest (outsized ls) (length ls)) None) (floors : List Cost) (low : Copies (λ l. l.floor) zero ls floors) where
+      parts_passed : lowest (outsized ls) t.grades ≡ None
+      parts_passed = ap (lowest (outsized ls)) (sym long) ∙ (part_none (lowest (outsized ls) (length ls)) None (sym ranges)).0
+
+      pub floor_refused : (e : FiguresFault) → Some e ≡ or_later (first_floor le t floors) Floor None → filing_fault le t ls ≡ Some e
+      floor_refused e is = fault_floor le t ls (plan_passed plan) parts_passed e (is ∙ ap (λ o. or_later o Floor None) (floor_same le t ls floors low))
+
+      module _ (lows : None ≡ or_later (first_floor le t floors) Floor None) (ceilings : List Cost) (high : Copies (λ l. l.ceiling) zero ls ceilings) where
+        floors_passed : first_floor le t (filed_floors ls) ≡ None
+        floors_passed = sym (floor_same le t ls floors low) ∙ (later_none (first_floor le t floors) Floor None (sym lows)).0
+
+        pub ceiling_refused : (e : FiguresFault) → Some e ≡ or_later (first_ceiling le t rows ceilings) Ceiling None → filing_fault le t ls ≡ Some e
+        ceiling_refused e is = fault_ceiling le t ls (plan_passed plan) parts_passed floors_passed e (is ∙ ap (λ o. or_later o Ceiling None) (ceiling_same le t ls rows copied ceilings high))
+
+        pub all_passed : None ≡ or_later (first_ceiling le t rows ceilings) Ceiling None → filing_fault le t ls ≡ None
+        all_passed highs =
+            fault_none le t ls (plan_passed plan) parts_passed floors_passed
+            (sym (ceiling_same le t ls rows copied ceilings high) ∙ (later_none (first_ceiling le t rows ceilings) Ceiling None (sym highs)).0)
 
 -- a refusal that `?` hands on
 pub filed_refused : (le : Cost → Cost → Bool) (s : SoundTable) (ls : List FiledLine) (e : FiguresFault) (r : Result Page FilingFault) → IsErrAnd r (λ x. x ≡ fault.Figures e) → length ls ≡ s.table.grades → filing_fault le s.table ls ≡ Some e → Filed le s ls r
@@ -111,7 +143,7 @@ none_outsized ls n e g h =
     let both = and_parts low high (not-false (low && high) (none_found (outsized ls) n 1 e g h.0 (omega (arith, h.1)))) in
     (figure_test (figure_at (filed_floors ls) g) both.0, figure_test (figure_at (filed_ceilings ls) g) both.1)
 
-pub outsized_none : (ls : List FiledLine) (n : ℕ) → ((g : ℕ) → Within 1 n g → FigureIn (figure_at (filed_floors ls) g) × FigureIn (figure_at (filed_ceilings ls) g)) → lowest (outsized ls) n ≡ None
+outsized_none : (ls : List FiledLine) (n : ℕ) → ((g : ℕ) → Within 1 n g → FigureIn (figure_at (filed_floors ls) g) × FigureIn (figure_at (filed_ceilings ls) g)) → lowest (outsized ls) n ≡ None
 outsized_none ls n h = search_none (outsized ls) n 1 (λ g lo hi.
     let both = h g (lo, omega arith) in
     ap not (and_from (is_figure (figure_at (filed_floors ls) g)) (is_figure (figure_at (filed_ceilings ls) g)) (test_figure (figure_at (filed_floors ls) g) both.0) (test_figure (figure_at (filed_ceilings ls) g) both.1)))
@@ -155,4 +187,4 @@ module _ (le : Cost → Cost → Bool) (t : Table) (s : Sound t) (ls : List File
 pub filing_tells : (le : Cost → Cost → Bool) (s : SoundTable) (ls : List FiledLine) (r : Result Page FilingFault) → Filed le s ls r → FilingTells le s.table ls r
 filing_tells le s ls (Ok p) f = none_filing le s.table (sound_table s) ls f.0 f.1
 filing_tells le s ls (Err fault.Lines) f = λ k. f k.lines
-filing_tells le s ls (Err (fault.Figures e)) f = λ k. some≢none e (sym f.1 ∙ filing_none le s.table (sound_table s) ls k)
+filing_tells le s ls (Err (fault.Figures e)) f = λ k. none-some e (sym (filing_none le s.table (sound_table s) ls k) ∙ f.1)

@@ -1,5 +1,6 @@
 -- The check of figures finds nothing exactly where they keep the rules. Assumes nothing.
 use Rattle.std.proofs.Common.{◌≡◌, ℕ, zero, suc, ◌+◌, ◌-◌, ◌<◌, ◌≤◌, Bool, true, false, cond, not, eqb, List, [], ◌∷◌, Some, None, Option, sym, refl, ap, ◌∙◌, subst, ⊎_elim, arith}
+use Rattle.std.proofs.lemmas.Option.{none-some}
 use Rattle.std.proofs.lemmas.Bool.{false≢true, not-false, cases_Bool, cases_eq, eq-eqb}
 use Rattle.std.proofs.lemmas.Bool.Decides.{eqb_tells}
 use Rattle.rankings.specs.Costs.{Cost, times}
@@ -41,16 +42,13 @@ row_walked t s g k r =
 pub walked_row : (t : Table) → Sound t → (g k : ℕ) → Within 1 t.grades g → has k (rows_of t g) ≡ true → RowOf t g k
 walked_row t s g k h e = record { grade = h; chained = record { chain = rows_of t g; is = rows_end t s.row_pointed g h; among = e } }
 
-pub some≢none : {A : Type 0} (x : A) → Some x ≡ None → ⊥
-some≢none x e = let no : ◌≡◌ {A = ℕ} 0 1 = cc in omega arith
-
 -- a search that finds nothing: the test holds of none
 module _ (bad : ℕ → ℕ → Bool) where
   in_none : (g : ℕ) (ks : List ℕ) (later : Option (ℕ × ℕ)) → first_in bad g ks later ≡ None → ((k : ℕ) → has k ks ≡ true → bad g k ≡ false) × (later ≡ None)
   in_none g [] later e = ((λ k h. absurd (false≢true h)), e)
   in_none g (x ∷ ks) later e =
       ⊎_elim
-      (λ b. absurd (some≢none (g, x) (sym (in_here bad g x ks later b) ∙ e)))
+      (λ b. absurd (none-some (g, x) (sym e ∙ in_here bad g x ks later b)))
       (λ b.
       let r = in_none g ks later (sym (in_later bad g x ks later b) ∙ e) in (
         (λ k h. ⊎_elim
@@ -101,7 +99,7 @@ module _ (le : Cost → Cost → Bool) (t : Table) (w : ℕ → Cost) (g k : ℕ
   ceiling_is = ap (λ o. not (keeps_ceiling le t w g o)) (ahead_some t k w row)
 
 pub later_none : (o : Option (ℕ × ℕ)) (at : ℕ → ℕ → FiguresFault) (later : Option FiguresFault) → or_later o at later ≡ None → (o ≡ None) × (later ≡ None)
-later_none (Some p) at later e = absurd (some≢none (at p.0 p.1) e)
+later_none (Some p) at later e = absurd (none-some (at p.0 p.1) (sym e))
 later_none None at later e = (refl, e)
 
 module _ (le : Cost → Cost → Bool) (t : Table) (s : Sound t) where
@@ -160,4 +158,4 @@ kept_exactly le t s f = (none_kept le t s f, kept_none le t s f)
 -- what the check answers tells whether the rules are kept
 pub answer_kept : (le : Cost → Cost → Bool) (t : Table) → Sound t → (f : Figures) (r : Option FiguresFault) → r ≡ figures_fault le t f → Tells le t f r
 answer_kept le t s f None e = (kept_exactly le t s f).0 (sym e)
-answer_kept le t s f (Some x) e = λ k. some≢none x (e ∙ (kept_exactly le t s f).1 k)
+answer_kept le t s f (Some x) e = λ k. none-some x (sym (e ∙ (kept_exactly le t s f).1 k))

@@ -7,7 +7,6 @@ pub mod Faultless
 pub mod Magnitudes
 pub mod Pairs
 pub mod Lookaheads
-pub mod Pigeons
 pub mod Ends
 pub mod Soundness
 pub mod Keeping

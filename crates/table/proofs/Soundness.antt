@@ -59,14 +59,14 @@ chain_same next k (x ∷ xs) [] c d = absurd (omega (arith, d, c.1))
 chain_same next k (x ∷ xs) (y ∷ ys) c d = (λ i. (c.0 ∙ sym d.0) i ∷ chain_same next (next k) xs ys c.2 d.2 i)
 
 -- from a number of a chain on, the rest is its chain
-chain_from : (next : ℕ → ℕ) (k y : ℕ) (xs : List ℕ) → Chain next k xs → 1 ≤ count y xs → (ys : List ℕ) × (Chain next y ys × (length ys ≤ length xs))
-chain_from next k y [] c h = absurd (omega arith)
-chain_from next k y (x ∷ xs) c h =
+chain_rest : (next : ℕ → ℕ) (k y : ℕ) (xs : List ℕ) → Chain next k xs → 1 ≤ count y xs → (ys : List ℕ) × (Chain next y ys × (length ys ≤ length xs))
+chain_rest next k y [] c h = absurd (omega arith)
+chain_rest next k y (x ∷ xs) c h =
     ⊎_elim
     (λ t. (x ∷ xs, (subst (λ j. Chain next j (x ∷ xs)) (sym c.0 ∙ t.1) c, omega arith)))
     (λ t.
     let first : cond {A = ℕ} (eqb x y) 1 0 ≡ 0 = simp t.0 in
-    let r = chain_from next (next k) y xs c.2 (omega arith) in
+    let r = chain_rest next (next k) y xs c.2 (omega arith) in
     (r.0, (r.1.0, omega (arith, r.1.1))))
     (eqb_tells x y)
 
@@ -81,7 +81,7 @@ chain_once next k (x ∷ xs) c y =
     ⊎_elim
     (λ none. omega arith)
     (λ some.
-    let r = chain_from next (next k) y xs c.2 some in
+    let r = chain_rest next (next k) y xs c.2 some in
     let whole : Chain next y (x ∷ xs) = subst (λ j. Chain next j (x ∷ xs)) (sym c.0 ∙ t.1) c in
     let same = ap length (chain_same next y (x ∷ xs) r.0 whole r.1.0) in
     absurd (omega (arith, same, r.1.1)))

@@ -1,7 +1,7 @@
 -- Counts of the numbers of a list, one number more at a time. Assumes nothing.
 use Rattle.std.proofs.Common.{◌≡◌, ℕ, zero, suc, ◌+◌, ◌-◌, ◌<◌, ◌≤◌, cond, eqb, List, [], ◌∷◌, ◌++◌, map, length, get_or, take, set, sym, refl, ap, ◌∙◌, subst, append_assoc, ⊎_elim, add-zero, arith}
 use Rattle.std.proofs.lemmas.List.{length-set, length-append, length-map, length-take, map_more, get_or-set_same, get_or-set_other, get_or-take, length-take-le}
-use Rattle.std.proofs.lemmas.Bool.{ne_eqb}
+use Rattle.std.proofs.lemmas.Bool.{eq-eqb, ne_eqb}
 use Rattle.std.proofs.lemmas.Bool.Decides.{eqb_tells, nat_tests}
 use Rattle.table.specs.Counts.{one_more}
 use Rattle.table.specs.Faults.{count, lowest, outside, mispointed, loose}
@@ -21,6 +21,22 @@ count-≤ k (x ∷ xs) =
 pub length-one_more : (x : ℕ) (cs : List ℕ) → length (one_more x cs) ≡ length cs
 length-one_more zero cs = refl
 length-one_more (suc j) cs = length-set cs j _
+
+-- a number that stands at a place, and one that stands at two
+pub count_some : (y : ℕ) (xs : List ℕ) (i : ℕ) → i < length xs → get_or xs i 0 ≡ y → 1 ≤ count y xs
+count_some y [] i l e = absurd (omega arith)
+count_some y (x ∷ xs) zero l e = let first : cond {A = ℕ} (eqb x y) 1 0 ≡ 1 = simp (eq-eqb x y e) in omega arith
+count_some y (x ∷ xs) (suc i) l e = let rest = count_some y xs i (omega arith) e in omega arith
+
+pub count_two : (y : ℕ) (xs : List ℕ) (i j : ℕ) → i < j → j < length xs → get_or xs i 0 ≡ y → get_or xs j 0 ≡ y → 2 ≤ count y xs
+count_two y [] i j l m e f = absurd (omega arith)
+count_two y (x ∷ xs) zero zero l m e f = absurd (omega arith)
+count_two y (x ∷ xs) zero (suc j) l m e f =
+    let first : cond {A = ℕ} (eqb x y) 1 0 ≡ 1 = simp (eq-eqb x y e) in
+    let rest = count_some y xs j (omega arith) f in
+    omega arith
+count_two y (x ∷ xs) (suc i) zero l m e f = absurd (omega arith)
+count_two y (x ∷ xs) (suc i) (suc j) l m e f = let rest = count_two y xs i j (omega arith) (omega arith) e f in omega arith
 
 -- the first n of the counts are those of the numbers of a list
 pub record Counted (n : ℕ) (cs xs : List ℕ) : Type 0 where

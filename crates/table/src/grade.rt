@@ -4,10 +4,11 @@ ghost use Rattle.table.specs.Ranges.{Within};
 ghost use Rattle.table.specs.Walks.{rows_ahead, Along};
 ghost use Rattle.table.specs.Chains.{rows_of};
 ghost use Rattle.table.specs.Lookahead.{figure_at, scaling};
-ghost use Rattle.table.specs.Rules.{has};
+ghost use Rattle.table.specs.Rules.{has, plan_row};
 ghost use Rattle.std.specs.Iterator.{at_most};
 
 use crate::column::Column;
+use crate::limits::MAX_GRADES;
 use crate::rows::Row;
 use crate::sound::SoundTable;
 use crate::walk::Walk;
@@ -36,6 +37,13 @@ impl<'a> Grade<'a> {
         self.rows().any(|row| row == k)
     }
 
+    /// The grade's plan row.
+    pub fn plan_row(self, rows: &[usize; MAX_GRADES]) -> usize
+        ensures { result ≡ plan_row rows.now self.entry.number }
+    {
+        rows[self.number - 1]
+    }
+
     /// The grade's figure.
     pub fn figure(self, figures: &Column) -> (i64, i64)
         ensures { result ≡ figure_at figures.now.at self.entry.number }
@@ -53,7 +61,7 @@ impl<'a> Grade<'a> {
     }
 }
 
-/// The grades of a sound table, from those past the first `passed` on.
+/// The grades of a sound table, without the first `passed`.
 #[derive(Clone, Copy)]
 pub struct Grades<'a> {
     sound: &'a SoundTable,

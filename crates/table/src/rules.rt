@@ -39,7 +39,7 @@ pub(crate) fn check_plan(sound: &SoundTable, rows: &[usize; MAX_GRADES]) -> Resu
     ensures { result_err result ≡ or_later (first_stray sound.now.table rows.now) PlanRow None }
 {
     for grade in sound.grades() {
-        let row = rows[grade.number - 1];
+        let row = grade.plan_row(rows);
         if !grade.has_row(row) {
             return Err(FiguresFault::PlanRow {
                 grade: grade.number,
@@ -51,6 +51,7 @@ pub(crate) fn check_plan(sound: &SoundTable, rows: &[usize; MAX_GRADES]) -> Resu
 }
 
 /// Refuses the first floor that breaks its rule, in grade order and then chain order.
+// The loops and the labelled break that carries grade and row are a form that the project's scope fixes.
 pub(crate) fn check_floors<R: Ranking>(
     ranking: &R,
     sound: &SoundTable,
@@ -81,7 +82,7 @@ pub(crate) fn check_ceilings<R: Ranking>(
     ensures { result_err result ≡ or_later (first_ceiling (R.ranks ranking.now) sound.now.table rows.now ceilings.now.at) Ceiling None }
 {
     for grade in sound.grades() {
-        let row = rows[grade.number - 1];
+        let row = grade.plan_row(rows);
         if !keeps_ceiling(ranking, grade, ceilings, row) {
             return Err(FiguresFault::Ceiling {
                 grade: grade.number,

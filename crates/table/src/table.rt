@@ -6,6 +6,7 @@ use crate::rows::{Arc, Row};
 
 /// One shop's table (a finite Markov decision process), all of its numbers in range. Grades, rows and arcs are numbered
 /// from 1, so that the row k is `row[k - 1]`; what lies beyond `grades`, `rows` and `arcs` is never read.
+// Counts stand beside fixed arrays by a rule of the project: the library allocates nothing, and its limits are fixed.
 #[derive(Clone, Copy)]
 pub struct Table {
     /// How many grades (states), rows (actions) and arcs (transitions) there are.

@@ -63,6 +63,7 @@ impl Table {
     }
 
     /// The arcs of the row k, in chain order.
+    // k stays a bare number: a struct for a row, as Grade is for a grade, would serve this and two private functions.
     pub fn arcs_of(&self, k: usize) -> Walk<'_, Arc>
         requires { Within 1 self.now.rows k }
         ensures { Along arcs_ahead self.now.arcs (arcs_of self.now k) result }

@@ -1,10 +1,9 @@
-use Rattle.std.proofs.Common.{◌≡◌, ◌-◌, length, None, sym, refl, ap, ◌∙◌, arith}
-use Rattle.std.specs.Result.{result_err}
-use Rattle.table.specs.declared.fault.FiguresFault.TheVariants.{PlanRow, Floor, Ceiling}
+use Rattle.std.proofs.Common.{◌≡◌, ◌-◌, length, None, sym, refl, arith}
+use Rattle.table.specs.declared.fault.FiguresFault.TheVariants.{PlanRow}
 use Rattle.table.specs.Faults.{lowest}
-use Rattle.table.specs.Filing.{outsized, or_part}
-use Rattle.table.specs.Rules.{or_later, first_stray, first_floor, first_ceiling}
-use Rattle.table.proofs.Filings.{stray_same, floor_same, ceiling_same, fault_stray, fault_part, fault_floor, fault_ceiling, fault_none, part_none, none_outsized, copied_in, planned_in, filed_refused}
+use Rattle.table.specs.Filing.{outsized}
+use Rattle.table.specs.Rules.{first_stray}
+use Rattle.table.proofs.Filings.{plan_refused, part_refused, floor_refused, ceiling_refused, all_passed, part_none, none_outsized, copied_in, planned_in, filed_refused}
 use Rattle.table.proofs.Keeping.{later_none}
 use Rattle.table.proofs.Soundness.{sound_table}
 use Rattle.table.proofs.filing.filed_page.Goals as goal
@@ -14,26 +13,25 @@ returns-in_err-check_plan g c =
     let le = g.R.Ranking.ranks c.args.ranking.now in
     let s = c.args.sound.now in
     let ls = c.args.lines.now in
-    let rows = c.columns.result.0 in
+    let e = c.in_err-check_plan.field-0.0 in
     let long : length ls ≡ s.table.grades = omega arith in
-    filed_refused le s ls c.in_err-check_plan.field-0.0 c.from_residual.result c.from_residual.ensures.1 long
-    (fault_stray le s.table ls c.in_err-check_plan.field-0.0 (sym (ap result_err c.in_err-check_plan.was) ∙ c.check_plan.ensures ∙ ap (λ o. or_later o PlanRow None) (stray_same le s.table ls rows c.columns.ensures.rows)))
+    filed_refused le s ls e c.from_residual.result c.from_residual.ensures.1 long
+    (plan_refused le s.table ls long c.columns.result.0 c.columns.ensures.rows e c.in_err-check_plan.ensures)
 
 pub returns-in_err-check_ranges : goal.returns-in_err-check_ranges
 returns-in_err-check_ranges g c =
     let le = g.R.Ranking.ranks c.args.ranking.now in
     let s = c.args.sound.now in
     let ls = c.args.lines.now in
-    let rows = c.columns.result.0 in
-    let a = sym (stray_same le s.table ls rows c.columns.ensures.rows) ∙ (later_none (first_stray s.table rows) PlanRow None (sym c.check_plan.ensures ∙ ap result_err c.in_ok-check_plan.was)).0 in
+    let e = c.in_err-check_ranges.field-0.0 in
     let long : length ls ≡ s.table.grades = omega arith in
-    filed_refused le s ls c.in_err-check_ranges.field-0.0 c.from_residual-in_err-check_ranges.result c.from_residual-in_err-check_ranges.ensures.1 long
-    (fault_part le s.table ls a c.in_err-check_ranges.field-0.0 (sym (ap result_err c.in_err-check_ranges.was) ∙ c.check_ranges.ensures ∙ ap (λ n. or_part (lowest (outsized ls) n) None) long))
+    filed_refused le s ls e c.from_residual-in_err-check_ranges.result c.from_residual-in_err-check_ranges.ensures.1 long
+    (part_refused le s.table ls long c.columns.result.0 c.columns.ensures.rows c.in_ok-check_plan.ensures e c.in_err-check_ranges.ensures)
 
 pub invariant_of-floor : goal.invariant_of-floor
 invariant_of-floor g c =
     let ls = c.args.lines.now in
-    let none = (part_none (lowest (outsized ls) (length ls)) None (sym c.check_ranges.ensures ∙ ap result_err c.in_ok-check_ranges.was)).0 in
+    let none = (part_none (lowest (outsized ls) (length ls)) None (sym c.in_ok-check_ranges.ensures)).0 in
     record { within = copied_in (λ l. l.floor) ls c.columns.result.1 c.columns.ensures.floors (λ g h. (none_outsized ls (length ls) none g h).0); long = c.columns.ensures.floors.0 }
 
 pub returns-in_err-check_floors : goal.returns-in_err-check_floors
@@ -41,17 +39,15 @@ returns-in_err-check_floors g c =
     let le = g.R.Ranking.ranks c.args.ranking.now in
     let s = c.args.sound.now in
     let ls = c.args.lines.now in
-    let rows = c.columns.result.0 in
-    let a = sym (stray_same le s.table ls rows c.columns.ensures.rows) ∙ (later_none (first_stray s.table rows) PlanRow None (sym c.check_plan.ensures ∙ ap result_err c.in_ok-check_plan.was)).0 in
+    let e = c.in_err-check_floors.field-0.0 in
     let long : length ls ≡ s.table.grades = omega arith in
-    let b = ap (lowest (outsized ls)) (sym long) ∙ (part_none (lowest (outsized ls) (length ls)) None (sym c.check_ranges.ensures ∙ ap result_err c.in_ok-check_ranges.was)).0 in
-    filed_refused le s ls c.in_err-check_floors.field-0.0 c.from_residual-in_err-check_floors.result c.from_residual-in_err-check_floors.ensures.1 long
-    (fault_floor le s.table ls a b c.in_err-check_floors.field-0.0 (sym (ap result_err c.in_err-check_floors.was) ∙ c.check_floors.ensures ∙ ap (λ o. or_later o Floor None) (floor_same le s.table ls c.columns.result.1 c.columns.ensures.floors)))
+    filed_refused le s ls e c.from_residual-in_err-check_floors.result c.from_residual-in_err-check_floors.ensures.1 long
+    (floor_refused le s.table ls long c.columns.result.0 c.columns.ensures.rows c.in_ok-check_plan.ensures c.in_ok-check_ranges.ensures c.columns.result.1 c.columns.ensures.floors e c.in_err-check_floors.ensures)
 
 pub invariant_of-ceiling : goal.invariant_of-ceiling
 invariant_of-ceiling g c =
     let ls = c.args.lines.now in
-    let none = (part_none (lowest (outsized ls) (length ls)) None (sym c.check_ranges.ensures ∙ ap result_err c.in_ok-check_ranges.was)).0 in
+    let none = (part_none (lowest (outsized ls) (length ls)) None (sym c.in_ok-check_ranges.ensures)).0 in
     record { within = copied_in (λ l. l.ceiling) ls c.columns.result.2 c.columns.ensures.ceilings (λ g h. (none_outsized ls (length ls) none g h).1); long = c.columns.ensures.ceilings.0 }
 
 pub returns-in_err-check_ceilings : goal.returns-in_err-check_ceilings
@@ -59,36 +55,27 @@ returns-in_err-check_ceilings g c =
     let le = g.R.Ranking.ranks c.args.ranking.now in
     let s = c.args.sound.now in
     let ls = c.args.lines.now in
-    let rows = c.columns.result.0 in
-    let a = sym (stray_same le s.table ls rows c.columns.ensures.rows) ∙ (later_none (first_stray s.table rows) PlanRow None (sym c.check_plan.ensures ∙ ap result_err c.in_ok-check_plan.was)).0 in
+    let e = c.in_err-check_ceilings.field-0.0 in
     let long : length ls ≡ s.table.grades = omega arith in
-    let b = ap (lowest (outsized ls)) (sym long) ∙ (part_none (lowest (outsized ls) (length ls)) None (sym c.check_ranges.ensures ∙ ap result_err c.in_ok-check_ranges.was)).0 in
-    let floors = c.columns.result.1 in
-    let d = sym (floor_same le s.table ls floors c.columns.ensures.floors) ∙ (later_none (first_floor le s.table floors) Floor None (sym c.check_floors.ensures ∙ ap result_err c.in_ok-check_floors.was)).0 in
-    filed_refused le s ls c.in_err-check_ceilings.field-0.0 c.from_residual-in_err-check_ceilings.result c.from_residual-in_err-check_ceilings.ensures.1 long
-    (fault_ceiling le s.table ls a b d c.in_err-check_ceilings.field-0.0 (sym (ap result_err c.in_err-check_ceilings.was) ∙ c.check_ceilings.ensures ∙ ap (λ o. or_later o Ceiling None) (ceiling_same le s.table ls rows c.columns.ensures.rows c.columns.result.2 c.columns.ensures.ceilings)))
+    filed_refused le s ls e c.from_residual-in_err-check_ceilings.result c.from_residual-in_err-check_ceilings.ensures.1 long
+    (ceiling_refused le s.table ls long c.columns.result.0 c.columns.ensures.rows c.in_ok-check_plan.ensures c.in_ok-check_ranges.ensures c.columns.result.1 c.columns.ensures.floors c.in_ok-check_floors.ensures
+    c.columns.result.2 c.columns.ensures.ceilings e c.in_err-check_ceilings.ensures)
 
 pub invariant_of-result : goal.invariant_of-result
 invariant_of-result g c =
     let s = c.args.sound.now in
     let rows = c.columns.result.0 in
-    record { planned = planned_in s.table (sound_table s) rows (later_none (first_stray s.table rows) PlanRow None (sym c.check_plan.ensures ∙ ap result_err c.in_ok-check_plan.was)).0 }
+    record { planned = planned_in s.table (sound_table s) rows (later_none (first_stray s.table rows) PlanRow None (sym c.in_ok-check_plan.ensures)).0 }
 
 pub returns : goal.returns
 returns g c =
-    let le = g.R.Ranking.ranks c.args.ranking.now in
     let s = c.args.sound.now in
     let ls = c.args.lines.now in
-    let rows = c.columns.result.0 in
-    let a = sym (stray_same le s.table ls rows c.columns.ensures.rows) ∙ (later_none (first_stray s.table rows) PlanRow None (sym c.check_plan.ensures ∙ ap result_err c.in_ok-check_plan.was)).0 in
-    let long : length ls ≡ s.table.grades = omega arith in
-    let b = ap (lowest (outsized ls)) (sym long) ∙ (part_none (lowest (outsized ls) (length ls)) None (sym c.check_ranges.ensures ∙ ap result_err c.in_ok-check_ranges.was)).0 in
-    let floors = c.columns.result.1 in
-    let d = sym (floor_same le s.table ls floors c.columns.ensures.floors) ∙ (later_none (first_floor le s.table floors) Floor None (sym c.check_floors.ensures ∙ ap result_err c.in_ok-check_floors.was)).0 in
-    let ceilings = c.columns.result.2 in
-    let e = sym (ceiling_same le s.table ls rows c.columns.ensures.rows ceilings c.columns.ensures.ceilings) ∙ (later_none (first_ceiling le s.table rows ceilings) Ceiling None (sym c.check_ceilings.ensures ∙ ap result_err c.in_ok-check_ceilings.was)).0 in (
+    let copied = c.columns.ensures in
+    let long : length ls ≡ s.table.grades = omega arith in (
       long,
-      fault_none le s.table ls a b d e,
+      all_passed (g.R.Ranking.ranks c.args.ranking.now) s.table ls long c.columns.result.0 copied.rows c.in_ok-check_plan.ensures c.in_ok-check_ranges.ensures c.columns.result.1 copied.floors c.in_ok-check_floors.ensures
+          c.columns.result.2 copied.ceilings c.in_ok-check_ceilings.ensures,
       refl,
-      record { rows = λ j. c.columns.ensures.rows.1 (j - 1); floors = λ j. c.columns.ensures.floors.1 (j - 1); ceilings = λ j. c.columns.ensures.ceilings.1 (j - 1) },
+      record { rows = λ j. copied.rows.1 (j - 1); floors = λ j. copied.floors.1 (j - 1); ceilings = λ j. copied.ceilings.1 (j - 1) },
     )

@@ -1,4 +1,4 @@
-use Rattle.std.proofs.Common.{◌-◌, ◌≤◌, not, get_or, sym, refl, ap, ◌∙◌, arith}
+use Rattle.std.proofs.Common.{◌≤◌, not, [], ◌∷◌, sym, ap, ◌∙◌, arith}
 use Rattle.table.specs.declared.fault.FiguresFault.TheVariants.{Ceiling}
 use Rattle.table.specs.Lookahead.{figure_at}
 use Rattle.table.specs.Rules.{breaks_ceiling, plan_only, first_ceiling}
@@ -12,10 +12,11 @@ returns-then-not-keeps_ceiling g c =
     let w = figure_at c.args.ceilings.now.at in
     let rows = c.args.rows.now in
     let n = c.in-Some.grade.number in
-    let row = get_or rows (n - 1) 0 in
+    let row = c.plan_row-row.result in
+    let alone = ap (λ k. k ∷ []) (sym c.plan_row-row.ensures) in
     let same = ap (λ b. b.now) c.in-Some.ensures.steps.1.0 ∙ c.loop-grade.invariant.0 in
     let within : n ≤ t.grades = omega (arith, c.in-Some.grade.among.1, ap (λ s. s.table.grades) same) in
-    one_here (breaks_ceiling le t w) (plan_only rows) t.grades c.loop-grade.grade-iterator.passed n c.in-Some.ensures.steps.1.1 within row refl (first_ceiling le t rows c.args.ceilings.now.at) c.loop-grade.invariant.1 Ceiling
+    one_here (breaks_ceiling le t w) (plan_only rows) t.grades c.loop-grade.grade-iterator.passed n c.in-Some.ensures.steps.1.1 within row alone (first_ceiling le t rows c.args.ceilings.now.at) c.loop-grade.invariant.1 Ceiling
     (ap (λ s. breaks_ceiling le s.table w n row) (sym same) ∙ ap not (sym c.if-not-keeps_ceiling.ensures))
 
 pub loop-grade-preserved : goal.loop-grade-preserved
@@ -25,11 +26,12 @@ loop-grade-preserved g c =
     let w = figure_at c.args.ceilings.now.at in
     let rows = c.args.rows.now in
     let n = c.in-Some.grade.number in
-    let row = get_or rows (n - 1) 0 in
+    let row = c.plan_row-row.result in
+    let alone = ap (λ k. k ∷ []) (sym c.plan_row-row.ensures) in
     let same = ap (λ b. b.now) c.in-Some.ensures.steps.1.0 ∙ c.loop-grade.invariant.0 in
     let within : n ≤ t.grades = omega (arith, c.in-Some.grade.among.1, ap (λ s. s.table.grades) same) in (
       ap (λ b. b.now) c.in-Some.ensures.steps.0 ∙ c.loop-grade.invariant.0,
-      one_later (breaks_ceiling le t w) (plan_only rows) t.grades c.loop-grade.grade-iterator.passed n c.in-Some.ensures.steps.1.1 within row refl (first_ceiling le t rows c.args.ceilings.now.at) c.loop-grade.invariant.1
+      one_later (breaks_ceiling le t w) (plan_only rows) t.grades c.loop-grade.grade-iterator.passed n c.in-Some.ensures.steps.1.1 within row alone (first_ceiling le t rows c.args.ceilings.now.at) c.loop-grade.invariant.1
           c.next.new.self.passed c.in-Some.ensures.steps.1.2
           (ap (λ s. breaks_ceiling le s.table w n row) (sym same) ∙ ap not (sym c.if-not-keeps_ceiling.ensures)),
     )

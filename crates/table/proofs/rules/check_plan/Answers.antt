@@ -1,4 +1,4 @@
-use Rattle.std.proofs.Common.{◌-◌, ◌≤◌, not, get_or, sym, refl, ap, ◌∙◌, arith}
+use Rattle.std.proofs.Common.{◌≤◌, not, [], ◌∷◌, sym, ap, ◌∙◌, arith}
 use Rattle.table.specs.declared.fault.FiguresFault.TheVariants.{PlanRow}
 use Rattle.table.specs.Chains.{rows_of}
 use Rattle.table.specs.Rules.{has, strays, plan_only, first_stray}
@@ -10,10 +10,11 @@ returns-then-not-has_row c =
     let t = c.args.sound.now.table in
     let rows = c.args.rows.now in
     let g = c.in-Some.grade.number in
-    let row = get_or rows (g - 1) 0 in
+    let row = c.plan_row-row.result in
+    let alone = ap (λ k. k ∷ []) (sym c.plan_row-row.ensures) in
     let same = ap (λ b. b.now) c.in-Some.ensures.steps.1.0 ∙ c.loop-grade.invariant.0 in
     let within : g ≤ t.grades = omega (arith, c.in-Some.grade.among.1, ap (λ s. s.table.grades) same) in
-    one_here (strays t) (plan_only rows) t.grades c.loop-grade.grade-iterator.passed g c.in-Some.ensures.steps.1.1 within row refl (first_stray t rows) c.loop-grade.invariant.1 PlanRow
+    one_here (strays t) (plan_only rows) t.grades c.loop-grade.grade-iterator.passed g c.in-Some.ensures.steps.1.1 within row alone (first_stray t rows) c.loop-grade.invariant.1 PlanRow
     (ap not (ap (λ s. has row (rows_of s.table g)) (sym same) ∙ sym c.if-not-has_row.ensures))
 
 pub loop-grade-preserved : goal.loop-grade-preserved
@@ -21,11 +22,12 @@ loop-grade-preserved c =
     let t = c.args.sound.now.table in
     let rows = c.args.rows.now in
     let g = c.in-Some.grade.number in
-    let row = get_or rows (g - 1) 0 in
+    let row = c.plan_row-row.result in
+    let alone = ap (λ k. k ∷ []) (sym c.plan_row-row.ensures) in
     let same = ap (λ b. b.now) c.in-Some.ensures.steps.1.0 ∙ c.loop-grade.invariant.0 in
     let within : g ≤ t.grades = omega (arith, c.in-Some.grade.among.1, ap (λ s. s.table.grades) same) in (
       ap (λ b. b.now) c.in-Some.ensures.steps.0 ∙ c.loop-grade.invariant.0,
-      one_later (strays t) (plan_only rows) t.grades c.loop-grade.grade-iterator.passed g c.in-Some.ensures.steps.1.1 within row refl (first_stray t rows) c.loop-grade.invariant.1
+      one_later (strays t) (plan_only rows) t.grades c.loop-grade.grade-iterator.passed g c.in-Some.ensures.steps.1.1 within row alone (first_stray t rows) c.loop-grade.invariant.1
           c.next.new.self.passed c.in-Some.ensures.steps.1.2
           (ap not (ap (λ s. has row (rows_of s.table g)) (sym same) ∙ sym c.if-not-has_row.ensures)),
     )
