@@ -39,7 +39,7 @@ fn cheaper_ceiling<R: Ranking>(
     ensures row { IfSome result (λ c. c.row ≡ plan_row filed.now.row grade.entry.number) }
 {
     let choice = Choice {
-        row: filed.row[grade.number - 1],
+        row: grade.plan_row(&filed.row),
         cost: grade.figure(&filed.ceiling),
     };
     ranking

@@ -20,7 +20,7 @@ fn eased_ceiling<R: Rounding>(
     ensures is { result ≡ eased (R.Ranking.ranks ranking.now) (R.dear ranking.now) grade.entry.sound.now.table figures.now.row (figure_at figures.now.ceiling.at) grade.entry.number }
     ensures within { IfSome result FigureIn }
 {
-    let ahead = lookahead(grade.sound, figures.row[grade.number - 1], &figures.ceiling)?;
+    let ahead = lookahead(grade.sound, grade.plan_row(&figures.row), &figures.ceiling)?;
     let ceiling = ranking.round_dear(ahead, divisor(grade.sound));
     ranking
         .cheaper(ceiling, grade.figure(&figures.ceiling))
@@ -32,7 +32,7 @@ fn better_row<R: Rounding>(ranking: &R, grade: Grade<'_>, figures: &Figures) -> 
     ensures is { result ≡ given (R.Ranking.ranks ranking.now) (R.dear ranking.now) grade.entry.sound.now.table figures.now.row (figure_at figures.now.ceiling.at) grade.entry.number }
     ensures row { IfSome result (Within 1 grade.entry.sound.now.table.rows) }
 {
-    let kept = lookahead(grade.sound, figures.row[grade.number - 1], &figures.ceiling)?;
+    let kept = lookahead(grade.sound, grade.plan_row(&figures.row), &figures.ceiling)?;
     let best = cheapest_row(ranking, grade.sound, grade.number, &figures.ceiling)?;
     ranking.cheaper(best.cost, kept).then_some(best.row)
 }
