@@ -55,7 +55,7 @@ impl<T: Linked> Iterator for Walk<'_, T> {
 
 impl Table {
     /// The rows of the grade g, in chain order.
-    pub fn rows_of(&self, g: usize) -> Walk<'_, Row>
+    pub(crate) fn rows_of(&self, g: usize) -> Walk<'_, Row>
         requires { Within 1 self.now.grades g }
         ensures { Along rows_ahead self.now.rows (rows_of self.now g) result }
     {
@@ -64,7 +64,7 @@ impl Table {
 
     /// The arcs of the row k, in chain order.
     // k stays a bare number: a struct for a row, as Grade is for a grade, would serve this and two private functions.
-    pub fn arcs_of(&self, k: usize) -> Walk<'_, Arc>
+    pub(crate) fn arcs_of(&self, k: usize) -> Walk<'_, Arc>
         requires { Within 1 self.now.rows k }
         ensures { Along arcs_ahead self.now.arcs (arcs_of self.now k) result }
     {
