@@ -5,6 +5,7 @@ pub mod Reaches
 pub mod Means
 pub mod Faultless
 pub mod Magnitudes
+pub mod Giving
 pub mod Pairs
 pub mod Lookaheads
 pub mod Ends

@@ -1,5 +1,6 @@
 -- One step of a walk along a chain, and its ends. Assumes nothing.
 use Rattle.std.proofs.Common.{◌≡◌, ℕ, zero, suc, ◌+◌, ◌-◌, ◌*◌, ◌<◌, ◌≤◌, List, [], ◌∷◌, length, get_or, take, eqb, Some, None, Option, sym, refl, ap, ◌∙◌, arith, rules}
+use Rattle.std.proofs.lemmas.Iterator.{YieldsList}
 use Rattle.std.proofs.lemmas.Iterator.Consumers.{YieldsList-from_first, YieldsList-turn, YieldsList-end}
 use Rattle.std.proofs.lemmas.List.{map-id, get_or-take, length-take-le}
 use Rattle.std.proofs.lemmas.List.Sums.{sum_by-cons}
@@ -7,7 +8,7 @@ use Rattle.table.specs.declared.walk.Walk.{Walk}
 use Rattle.table.specs.declared.table.Table.{Table}
 use Rattle.table.specs.Ranges.{Within, row0, arc0}
 use Rattle.table.specs.Chains.{walk, row_at, next_row, next_arc, arc_at, arcs_of, weights}
-use Rattle.table.specs.Walks.{ahead, chain_from, AllIn}
+use Rattle.table.specs.Walks.{ahead, chain_from, AllIn, Along}
 use Rattle.table.specs.Rules.{has}
 use Rattle.std.specs.Iterator.{Yields, YieldsFirst}
 use Rattle.std.specs.List.{All, list_any, sum_by}
@@ -96,11 +97,14 @@ pub sum_weights : (t : Table) (xs : List ℕ) → sum_by (λ x. (arc_at t x).wei
 sum_weights t [] = refl
 sum_weights t (x ∷ xs) = sum_by-cons (λ y. (arc_at t y).weight) x xs ∙ ap (λ n. (arc_at t x).weight + n) (sum_weights t xs)
 
--- a `for` over a walk, which has given xs of its chain
-module _ {T : Type 0} (next : T → ℕ) (none : T) (s : Walk T) (chain : List ℕ) (is : ahead next none s ≡ chain) (xs : List ℕ) (t : Walk T)
-    (y : Yields (YieldsFirst (ahead next none)) s xs t) (r : Option ℕ) (u : Walk T) where
-  pub walk_turn : (x : ℕ) → r ≡ Some x → YieldsFirst (ahead next none) t r u → (length xs < length chain) × (x ≡ get_or chain (length xs) x)
-  walk_turn x e step = YieldsList-turn (YieldsList-from_first (λ x. x) (ahead next none) chain is) xs t y r u x e step
+-- a `for` over a walk w along a chain, which has given xs
+module _ {T : Type 0} (next : T → ℕ) (none : T) (n : ℕ) (chain : List ℕ) (w : Walk T) (along : Along (ahead next none) n chain w) (s : Walk T) (same : s ≡ w)
+    (xs : List ℕ) (t : Walk T) (y : Yields (YieldsFirst (ahead next none)) s xs t) (r : Option ℕ) (u : Walk T) where
+  gives : YieldsList (YieldsFirst (ahead next none)) (λ x. x) s chain
+  gives = YieldsList-from_first (λ x. x) (ahead next none) chain (ap (ahead next none) same ∙ along.is)
+
+  pub walk_turn : (x : ℕ) → r ≡ Some x → YieldsFirst (ahead next none) t r u → (length xs < length chain) × Within 1 n x
+  walk_turn x e step = let at = YieldsList-turn gives xs t y r u x e step in (at.0, all_at n chain (length xs) x at.0 at.1 along.within)
 
   pub walk_done : r ≡ None → YieldsFirst (ahead next none) t r u → xs ≡ chain
-  walk_done e step = sym (map-id xs) ∙ (YieldsList-end (YieldsList-from_first (λ x. x) (ahead next none) chain is) xs t y r u e step).0
+  walk_done e step = sym (map-id xs) ∙ (YieldsList-end gives xs t y r u e step).0
