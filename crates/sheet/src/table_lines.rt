@@ -1,8 +1,8 @@
 //! The lines that say what a table, its figures and its labels say.
 
 ghost use Rattle.std.specs.Prelude.{◌≡◌, ◌<◌, ◌≤◌, length, slice_index};
-ghost use Rattle.lines.specs.Lines.{entry_of, end};
-ghost use Rattle.sheet.specs.Render.{part_of, header_entry, grade_entry, row_entry, arc_entry, figure_entry};
+ghost use Rattle.lines.specs.Lines.{entry_of};
+ghost use Rattle.sheet.specs.Render.{part_of, figures_of, header_entry, grade_entry, row_entry, arc_entry, figure_entry};
 ghost use Rattle.sheet.specs.Spans.{SpanIn};
 
 use crate::labels::Span;
@@ -94,9 +94,9 @@ pub(crate) fn figure_line(figures: &Figures, i: usize) -> Line<'static>
     })
 }
 
-/// The last line.
-pub(crate) fn end_line() -> Line<'static>
-    ensures { entry_of result ≡ end }
+/// How many figure lines there are.
+pub(crate) fn figure_count(grades: usize, figures: &Option<Figures>) -> usize
+    ensures { result ≡ figures_of grades figures.now }
 {
-    Line::End
+    if figures.is_some() { grades } else { 0 }
 }

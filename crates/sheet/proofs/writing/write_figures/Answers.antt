@@ -1,19 +1,16 @@
-use Rattle.std.proofs.Common.{ℕ, Some, arith}
-use Rattle.lines.specs.Lines.{Entry}
-use Rattle.sheet.specs.Render.{figure_entry}
-use Rattle.sheet.proofs.Series.{writes_nothing, line_more, line_short}
+use Rattle.std.proofs.Common.{Some, None, sym, subst, rules}
+use Rattle.text.specs.Writing.{Writes}
+use Rattle.sheet.specs.Render.{figure_part, figure_entry}
+use Rattle.sheet.proofs.Series.{writes_nothing}
 use Rattle.sheet.proofs.writing.write_figures.Goals as goal
 
-pub loop-i-init : goal.loop-i-init
-loop-i-init c = writes_nothing c.args.out.now c.args.at c.requires.1
+pub returns-in-None : goal.returns-in-None
+returns-in-None c =
+    let xs = c.args.out.now in
+    subst (λ f. Writes xs c.args.at (figure_part c.args.table.now.grades f) (Some c.args.at) xs) (sym c.in-None.is) (writes_nothing xs c.args.at c.requires.1)
 
-pub returns-in_err-at : goal.returns-in_err-at
-returns-in_err-at c =
-    let g : ℕ → Entry = λ i. figure_entry c.args.figures.now.row c.args.figures.now.floor.at c.args.figures.now.ceiling.at i in
-    rw c.from_residual.ensures
-    (line_short g c.args.out.now c.args.at c.loop-i.i c.loop-i.at c.loop-i.out c.loop-i.invariant _ c.figure_line.ensures c.args.table.now.grades _ (omega arith) c.in_err-at.ensures)
-
-pub loop-i-preserved : goal.loop-i-preserved
-loop-i-preserved c =
-    let g : ℕ → Entry = λ i. figure_entry c.args.figures.now.row c.args.figures.now.floor.at c.args.figures.now.ceiling.at i in
-    line_more g c.args.out.now c.args.at c.loop-i.i c.loop-i.at c.loop-i.out c.loop-i.invariant _ c.figure_line.ensures (Some c.in_ok-at.at) _ c.in_ok-at.ensures
+pub returns-in-Some : goal.returns-in-Some
+returns-in-Some c =
+    let f = c.in-Some.figures in
+    let h = c.write_lines.ensures.lines (λ i. figure_entry f.row f.floor.at f.ceiling.at i) (λ i l lt said. search rules) in
+    subst (λ f. Writes c.args.out.now c.args.at (figure_part c.args.table.now.grades f) c.write_lines.result c.write_lines.new.out) (sym c.in-Some.is) h
