@@ -9,7 +9,7 @@ use Rattle.lines.specs.Lines as line
 use Rattle.sheet.specs.declared.labels.Span.{Span}
 use Rattle.sheet.specs.declared.figure_reading.Figure.{Figure}
 use Rattle.sheet.specs.Due.{Counts, Count, grade, row, arc, figure}
-use Rattle.sheet.specs.Read.{GroupRead, grade_said, row_said, arc_said, figure_said}
+use Rattle.sheet.specs.Read.{GroupRead, figure0, grade_said, row_said, arc_said, figure_said}
 use Rattle.sheet.specs.Render.{figures_text, figure_entry}
 use Rattle.sheet.proofs.Once.{pos_inj}
 use Rattle.sheet.proofs.Parts.{series_same}
@@ -32,10 +32,6 @@ module _ (c : Counts) (sheet : List ℕ) (at n : ℕ) (labels : List Span) (next
       let a = get_or xs i arc0 in
       let p = read.ranged i lt in
       ((count_in 0 c.arcs a.next p.1).1, count_in 1 c.grades a.destination p.2, count_in 1 c.total a.weight p.3)
-
--- what stands for the figures beyond the grades
-abbrev pub figure0 : Figure
-figure0 = record { row = 0; floor = (pos 0, pos 0); ceiling = (pos 0, pos 0) }
 
 zero_in : FigureIn (pos 0, pos 0)
 zero_in = (search rules, search rules)

@@ -6,13 +6,9 @@ use Rattle.text.proofs.Reading.{not_some, same_pair}
 use Rattle.lines.specs.declared.fault.TextFault.{TextFault}
 use Rattle.lines.specs.declared.fault.TextFault.TheVariants as fault
 use Rattle.lines.specs.declared.records.HeaderLine.{HeaderLine}
-use Rattle.lines.specs.declared.records.GradeLine.{GradeLine}
-use Rattle.lines.specs.declared.records.RowLine.{RowLine}
-use Rattle.lines.specs.declared.records.ArcLine.{ArcLine}
-use Rattle.lines.specs.declared.records.FigureLine.{FigureLine}
 use Rattle.lines.specs.declared.records.Line.{Line}
 use Rattle.lines.specs.declared.records.Line.TheVariants as line
-use Rattle.lines.specs.Lines.{HeaderOf, GradeOf, RowOf, ArcOf, FigureOf, header, grade, row, arc, figure, end, line_text, blank, four_text, Good, entry_of, grade_of, row_of}
+use Rattle.lines.specs.Lines.{HeaderOf, header, end, line_text, blank, four_text, Good, entry_of, grade_of, row_of}
 use Rattle.lines.specs.Places.{label_of}
 use Rattle.sheet.specs.Due.{Counts, Slot, Said, entry, Ranged}
 use Rattle.sheet.specs.Halts.{LineFault}
@@ -28,38 +24,6 @@ not_header (line.Row x) other y e = cc
 not_header (line.Arc x) other y e = cc
 not_header (line.Figure x) other y e = cc
 not_header line.End other y e = cc
-
-pub not_grade : (l : Line) → ((x : GradeLine) → l ≡ line.Grade x → ⊥) → (y : GradeOf) → entry_of l ≡ grade y → ⊥
-not_grade (line.Header x) other y e = cc
-not_grade (line.Grade x) other y e = other x refl
-not_grade (line.Row x) other y e = cc
-not_grade (line.Arc x) other y e = cc
-not_grade (line.Figure x) other y e = cc
-not_grade line.End other y e = cc
-
-pub not_row : (l : Line) → ((x : RowLine) → l ≡ line.Row x → ⊥) → (y : RowOf) → entry_of l ≡ row y → ⊥
-not_row (line.Header x) other y e = cc
-not_row (line.Grade x) other y e = cc
-not_row (line.Row x) other y e = other x refl
-not_row (line.Arc x) other y e = cc
-not_row (line.Figure x) other y e = cc
-not_row line.End other y e = cc
-
-pub not_arc : (l : Line) → ((x : ArcLine) → l ≡ line.Arc x → ⊥) → (y : ArcOf) → entry_of l ≡ arc y → ⊥
-not_arc (line.Header x) other y e = cc
-not_arc (line.Grade x) other y e = cc
-not_arc (line.Row x) other y e = cc
-not_arc (line.Arc x) other y e = other x refl
-not_arc (line.Figure x) other y e = cc
-not_arc line.End other y e = cc
-
-pub not_figure : (l : Line) → ((x : FigureLine) → l ≡ line.Figure x → ⊥) → (y : FigureOf) → entry_of l ≡ figure y → ⊥
-not_figure (line.Header x) other y e = cc
-not_figure (line.Grade x) other y e = cc
-not_figure (line.Row x) other y e = cc
-not_figure (line.Arc x) other y e = cc
-not_figure (line.Figure x) other y e = other x refl
-not_figure line.End other y e = cc
 
 pub not_end : (l : Line) → (l ≡ line.End → ⊥) → entry_of l ≡ end → ⊥
 not_end (line.Header x) other e = cc

@@ -1,5 +1,5 @@
 -- A sheet that is refused at one of its lines. Assumes nothing.
-use Rattle.std.proofs.Common.{ℕ, ◌+◌, ◌≤◌, cond, List, [], ◌∷◌, ◌++◌, length, drop, inr}
+use Rattle.std.proofs.Common.{ℕ, ◌+◌, ◌≤◌, List, [], ◌∷◌, ◌++◌, length, inr}
 use Rattle.lines.specs.declared.fault.TextFault.{TextFault}
 use Rattle.sheet.specs.declared.header.Header.{Header}
 use Rattle.sheet.specs.Due.{grade, row, arc, figure, end, group, slots}

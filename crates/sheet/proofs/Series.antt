@@ -2,7 +2,7 @@
 use Rattle.std.proofs.Common.{◌≡◌, ℕ, zero, suc, ◌+◌, ◌-◌, ◌<◌, ◌≤◌, List, [], ◌++◌, length, take, drop, Some, None, Option, sym, ap, ◌∙◌, subst, add-one, arith}
 use Rattle.std.proofs.lemmas.List.{length-append, take-append-drop}
 use Rattle.text.specs.Writing.{Writes}
-use Rattle.text.proofs.Writing.{writes_then, writes_none}
+use Rattle.text.proofs.Writing.{writes_then}
 use Rattle.lines.specs.Lines.{Entry, line_text}
 use Rattle.sheet.specs.Render.{series}
 

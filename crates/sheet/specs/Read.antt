@@ -51,6 +51,10 @@ arc_said label i a = (pos (i + 1), (pos a.next, (pos a.destination, pos a.weight
 abbrev pub figure_said : List ℕ → ℕ → Figure → FigureOf
 figure_said label i f = (pos (i + 1), (pos f.row, (f.floor.0, (f.floor.1, (f.ceiling.0, f.ceiling.1)))))
 
+-- what stands for the figures beyond the grades
+abbrev pub figure0 : Figure
+figure0 = record { row = 0; floor = (pos 0, pos 0); ceiling = (pos 0, pos 0) }
+
 -- where the label lies of a line that ends before the place next
 abbrev pub span_of : Line → ℕ → Span
 span_of l next = record { start = next - 1 - length (label_of l); end = next - 1 }

@@ -1,4 +1,5 @@
 ghost use Rattle.std.specs.Prelude.{◌<◌, []};
+ghost use Rattle.table.specs.Ranges.{arc0};
 ghost use Rattle.lines.specs.Lines.{arc_of};
 ghost use Rattle.sheet.specs.Due.{arc as arc_due};
 ghost use Rattle.sheet.specs.Halts.{counts_of};
@@ -34,9 +35,23 @@ fn arc_of(line: &ArcLine, i: usize, header: &Header) -> Option<Arc>
 impl Group for Arcs {
     type Kept = Arc;
 
+    const EMPTY: Arc = Arc {
+        next: 0,
+        destination: 0,
+        weight: 0,
+    };
+
+    ghost EMPTY = { arc0 };
+
+    ghost count = { λ c. c.arcs };
+
     ghost slot = { arc_due };
 
     ghost said = { arc_said };
+
+    fn count(header: &Header) -> usize {
+        header.arcs
+    }
 
     fn keep(text: &Line<'_>, line: usize, i: usize, header: &Header) -> Result<Arc, TextFault> {
         let Line::Arc(arc) = text else {

@@ -1,12 +1,12 @@
-ghost use Rattle.std.specs.Prelude.{◌+◌, ◌<◌, ◌≤◌, [], length, drop, Ok, Err};
+ghost use Rattle.std.specs.Prelude.{◌<◌, ◌≤◌, [], length, drop, Ok, Err};
 ghost use Rattle.lines.specs.Lines.{figure_of};
 ghost use Rattle.sheet.specs.Due.{figure as figure_due};
 ghost use Rattle.sheet.specs.Halts.{counts_of, Halted};
-ghost use Rattle.sheet.specs.Read.{RangedOf, figure_said, FigurePartRead};
+ghost use Rattle.sheet.specs.Read.{RangedOf, figure0, figure_said, FigurePartRead};
 
 use crate::group::{Group, read_group};
 use crate::header::Header;
-use crate::ranges::{count, near};
+use crate::ranges::{cost, count};
 use lines::{FigureLine, Line, TextFault};
 use table::{Column, Figures, MAX_FIGURE_PART, MAX_GRADES};
 
@@ -30,25 +30,35 @@ fn figure_of(line: &FigureLine, i: usize, header: &Header) -> Option<Figure>
         return None;
     }
     let row = count(line.row, 1, header.rows)?;
-    if !near(line.floor_first, MAX_FIGURE_PART) || !near(line.floor_second, MAX_FIGURE_PART) {
-        return None;
-    }
-    if !near(line.ceiling_first, MAX_FIGURE_PART) || !near(line.ceiling_second, MAX_FIGURE_PART) {
-        return None;
-    }
+    let floor = cost(line.floor_first, line.floor_second, MAX_FIGURE_PART)?;
+    let ceiling = cost(line.ceiling_first, line.ceiling_second, MAX_FIGURE_PART)?;
     Some(Figure {
         row,
-        floor: (line.floor_first, line.floor_second),
-        ceiling: (line.ceiling_first, line.ceiling_second),
+        floor,
+        ceiling,
     })
 }
 
 impl Group for FigureLines {
     type Kept = Figure;
 
+    const EMPTY: Figure = Figure {
+        row: 0,
+        floor: (0, 0),
+        ceiling: (0, 0),
+    };
+
+    ghost EMPTY = { figure0 };
+
+    ghost count = { λ c. c.figures };
+
     ghost slot = { figure_due };
 
     ghost said = { figure_said };
+
+    fn count(header: &Header) -> usize {
+        if header.figured { header.grades } else { 0 }
+    }
 
     fn keep(text: &Line<'_>, line: usize, i: usize, header: &Header) -> Result<Figure, TextFault> {
         let Line::Figure(figure) = text else {
@@ -58,32 +68,22 @@ impl Group for FigureLines {
     }
 }
 
-/// The figure lines, from the place `at` on, where the header says that there are any; and the place after them.
+/// The figure lines, from the place `at` on and the first of them the sheet's line `line`, where the header says that there
+/// are any; and the place after them.
 pub(crate) fn read_figures(
     sheet: &[u8],
     at: usize,
+    line: usize,
     header: &Header,
 ) -> Result<(Option<Figures>, usize), TextFault>
-    requires { at ≤ length sheet.now }
-    ensures { elim result [ Ok p ↦ FigurePartRead header.now sheet.now at p.0 p.1 | Err e ↦ Halted (counts_of header.now) figure_due (counts_of header.now).figures (2 + header.now.grades + header.now.rows + header.now.arcs) (drop at sheet.now) e ] }
+    requires place { at ≤ length sheet.now }
+    requires line { line < 1000 }
+    ensures { elim result [ Ok p ↦ FigurePartRead header.now sheet.now at p.0 p.1 | Err e ↦ Halted (counts_of header.now) figure_due (counts_of header.now).figures line (drop at sheet.now) e ] }
 {
+    let (kept, _, at) = read_group::<FigureLines, MAX_GRADES>(sheet, at, line, header)?;
     if !header.figured {
         return Ok((None, at));
     }
-    let line = 2 + header.grades + header.rows + header.arcs;
-    let none = Figure {
-        row: 0,
-        floor: (0, 0),
-        ceiling: (0, 0),
-    };
-    let (kept, _, at) = read_group::<FigureLines, MAX_GRADES>(
-        sheet,
-        at,
-        line,
-        header.grades,
-        none,
-        header,
-    )?;
     let figures = Figures {
         row: kept.map(|figure| figure.row),
         floor: Column {

@@ -26,9 +26,19 @@ fn grade_of(line: &GradeLine<'_>, i: usize, header: &Header) -> Option<usize>
 impl Group for Grades {
     type Kept = usize;
 
+    const EMPTY: usize = 0;
+
+    ghost EMPTY = { 0 };
+
+    ghost count = { λ c. c.grades };
+
     ghost slot = { grade };
 
     ghost said = { grade_said };
+
+    fn count(header: &Header) -> usize {
+        header.grades
+    }
 
     fn keep(text: &Line<'_>, line: usize, i: usize, header: &Header) -> Result<usize, TextFault> {
         let Line::Grade(grade) = text else {

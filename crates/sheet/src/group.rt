@@ -3,7 +3,7 @@
 ghost use Rattle.std.specs.Prelude.{◌≡◌, ℕ, ◌+◌, ◌<◌, ◌≤◌, List, length, drop, Ok, Err};
 ghost use Rattle.lines.specs.Lines.{entry_of};
 ghost use Rattle.lines.specs.Places.{label_of};
-ghost use Rattle.sheet.specs.Due.{Slot, Said};
+ghost use Rattle.sheet.specs.Due.{Counts, Slot, Said};
 ghost use Rattle.sheet.specs.Halts.{counts_of, LineFault, Halted};
 ghost use Rattle.sheet.specs.Read.{span_of, KeptOf, LineRead, GroupRead};
 
@@ -16,11 +16,22 @@ pub(crate) trait Group {
     /// What is kept of a line, its label apart.
     type Kept: Copy;
 
+    /// What stands for the lines beyond the last.
+    const EMPTY: Self::Kept;
+
+    ghost EMPTY: { Self.Kept };
+
+    // how many lines there are, by the first line of the sheet
+    ghost count: { Counts → ℕ };
+
     // the line i + 1
     ghost slot: { ℕ → Slot };
 
     // what it says, from its label and what is kept
     ghost said: { List ℕ → (i : ℕ) → Self.Kept → Said (slot i) };
+
+    fn count(header: &Header) -> usize
+        ensures { result ≡ count (counts_of header.now) };
 
     /// What is kept of `text`, where it is the line `i + 1`, the sheet's line `line`, with each number in range.
     fn keep(
@@ -68,25 +79,23 @@ fn group_line<G: Group>(
     Ok((kept, label_span(&text, next), next))
 }
 
-/// The lines of a group from the place `at` on, `n` of them and the first of them the sheet's line `line`: what is kept
-/// of each, where their labels lie, and the place after them. What lies beyond them is `empty`.
+/// The lines of a group from the place `at` on, the first of them the sheet's line `line`: what is kept of each, where
+/// their labels lie, and the place after them.
 pub(crate) fn read_group<G: Group, const N: usize>(
     sheet: &[u8],
     at: usize,
     line: usize,
-    n: usize,
-    empty: G::Kept,
     header: &Header,
 ) -> Result<([G::Kept; N], [Span; N], usize), TextFault>
     requires place { at ≤ length sheet.now }
-    requires few { (n ≤ N) × (N ≤ 512) }
+    requires few { (G.count (counts_of header.now) ≤ N) × (N ≤ 512) }
     requires line { line < 1000 }
-    ensures { elim result [ Ok p ↦ GroupRead (counts_of header.now) G.slot G.said sheet.now at n empty p.0 p.1 p.2 | Err e ↦ Halted (counts_of header.now) G.slot n line (drop at sheet.now) e ] }
+    ensures { elim result [ Ok p ↦ GroupRead (counts_of header.now) G.slot G.said sheet.now at (G.count (counts_of header.now)) G.EMPTY p.0 p.1 p.2 | Err e ↦ Halted (counts_of header.now) G.slot (G.count (counts_of header.now)) line (drop at sheet.now) e ] }
 {
-    let mut kept = [empty; N];
+    let mut kept = [G::EMPTY; N];
     let mut label = [Span { start: 0, end: 0 }; N];
     let mut at = at;
-    for i in 0..n {
+    for i in 0..G::count(header) {
         (kept[i], label[i], at) = group_line::<G>(sheet, at, line + i, i, header)?;
     }
     Ok((kept, label, at))

@@ -14,24 +14,10 @@ use crate::row_reading::Rows;
 use crate::table_lines::figure_count;
 use crate::whole::Sheet;
 use lines::{Line, TextFault, line_at};
-use table::{Arc, MAX_ARCS, MAX_GRADES, MAX_ROWS, Row, Table};
+use table::{MAX_ARCS, MAX_GRADES, MAX_ROWS, Table};
 
 /// The longest sheet, in bytes.
 pub const MAX_SHEET: usize = 32_768;
-
-/// What lies beyond a sheet's rows.
-const NO_ROW: Row = Row {
-    next: 0,
-    cost: (0, 0),
-    first_arc: 0,
-};
-
-/// What lies beyond a sheet's arcs.
-const NO_ARC: Arc = Arc {
-    next: 0,
-    destination: 0,
-    weight: 0,
-};
 
 /// The line `end`, the sheet's line `line`, with nothing after it.
 fn read_end(sheet: &[u8], at: usize, line: usize) -> Result<(), TextFault>
@@ -55,27 +41,14 @@ pub(crate) fn read_sheet(sheet: &[u8]) -> Result<Sheet, TextFault>
         return Err(TextFault::TooLong);
     }
     let (header, at) = read_header(sheet)?;
-    let (first_row, grade, at) = read_group::<Grades, MAX_GRADES>(
-        sheet,
-        at,
-        2,
-        header.grades,
-        0,
-        &header,
-    )?;
+    let (first_row, grade, at) = read_group::<Grades, MAX_GRADES>(sheet, at, 2, &header)?;
     let line = 2 + header.grades;
-    let (row, label, at) = read_group::<Rows, MAX_ROWS>(
-        sheet,
-        at,
-        line,
-        header.rows,
-        NO_ROW,
-        &header,
-    )?;
+    let (row, label, at) = read_group::<Rows, MAX_ROWS>(sheet, at, line, &header)?;
     let line = line + header.rows;
-    let (arc, _, at) = read_group::<Arcs, MAX_ARCS>(sheet, at, line, header.arcs, NO_ARC, &header)?;
-    let (figures, at) = read_figures(sheet, at, &header)?;
-    let line = line + header.arcs + figure_count(header.grades, &figures);
+    let (arc, _, at) = read_group::<Arcs, MAX_ARCS>(sheet, at, line, &header)?;
+    let line = line + header.arcs;
+    let (figures, at) = read_figures(sheet, at, line, &header)?;
+    let line = line + figure_count(header.grades, &figures);
     read_end(sheet, at, line)?;
     let table = Table {
         grades: header.grades,

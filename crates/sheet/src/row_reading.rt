@@ -1,4 +1,5 @@
 ghost use Rattle.std.specs.Prelude.{◌<◌};
+ghost use Rattle.table.specs.Ranges.{row0};
 ghost use Rattle.lines.specs.Lines.{row_of};
 ghost use Rattle.sheet.specs.Due.{row as row_due};
 ghost use Rattle.sheet.specs.Halts.{counts_of};
@@ -6,7 +7,7 @@ ghost use Rattle.sheet.specs.Read.{RangedOf, row_said};
 
 use crate::group::Group;
 use crate::header::Header;
-use crate::ranges::{count, near};
+use crate::ranges::{cost, count};
 use lines::{Line, RowLine, TextFault};
 use table::{MAX_COST_PART, Row};
 
@@ -22,13 +23,11 @@ fn row_of(line: &RowLine<'_>, i: usize, header: &Header) -> Option<Row>
         return None;
     }
     let next = count(line.next, 0, header.rows)?;
-    if !near(line.first_part, MAX_COST_PART) || !near(line.second_part, MAX_COST_PART) {
-        return None;
-    }
+    let cost = cost(line.first_part, line.second_part, MAX_COST_PART)?;
     let first_arc = count(line.first_arc, 1, header.arcs)?;
     Some(Row {
         next,
-        cost: (line.first_part, line.second_part),
+        cost,
         first_arc,
     })
 }
@@ -36,9 +35,23 @@ fn row_of(line: &RowLine<'_>, i: usize, header: &Header) -> Option<Row>
 impl Group for Rows {
     type Kept = Row;
 
+    const EMPTY: Row = Row {
+        next: 0,
+        cost: (0, 0),
+        first_arc: 0,
+    };
+
+    ghost EMPTY = { row0 };
+
+    ghost count = { λ c. c.rows };
+
     ghost slot = { row_due };
 
     ghost said = { row_said };
+
+    fn count(header: &Header) -> usize {
+        header.rows
+    }
 
     fn keep(text: &Line<'_>, line: usize, i: usize, header: &Header) -> Result<Row, TextFault> {
         let Line::Row(row) = text else {

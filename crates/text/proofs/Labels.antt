@@ -1,7 +1,7 @@
 -- Bytes of a kind, up to the byte that ends them.
 use Rattle.std.proofs.Common.{◌≡◌, ℕ, suc, ◌+◌, ◌-◌, ◌<◌, ◌≤◌, List, [], ◌∷◌, ◌++◌, length, get_or, take, drop, Some, None, sym, refl, ap, ◌∙◌, subst, append_assoc, arith}
 use Rattle.std.specs.Int.{IsInRange}
-use Rattle.std.proofs.lemmas.List.{length-append, length-take-le, length-drop, get_or_at, get_or-take, get_or-drop, take-append-drop}
+use Rattle.std.proofs.lemmas.List.{length-take-le, length-drop, get_or-take, get_or-drop, take-append-drop}
 use Rattle.std.proofs.lemmas.Slice.{first_rest}
 use Rattle.text.specs.Reading.{Reads, Alone}
 use Rattle.text.specs.Fields.{Filled, ended, Label, label_text}
@@ -23,13 +23,6 @@ module _ (low high limit end : ℕ) (out : IsInRange low high end → ⊥) where
   filled_alone a b x y g h same =
       let cut = cut_once low high a b end end x y g.all h.all out out (sym (append_assoc a (end ∷ []) x) ∙ same ∙ append_assoc b (end ∷ []) y) in
       (cut.0, cut.2)
-
-  -- no end follows where each byte is in range
-  pub run_none : (bs : List ℕ) → ((k : ℕ) → k < length bs → IsInRange low high (get_or bs k 0)) → Reads (Filled low high limit) (ended end) bs None
-  run_none bs all =
-      refused (λ xs rest g e.
-      let cut = e ∙ append_assoc xs (end ∷ []) rest in
-      out (subst (IsInRange low high) (ap (λ l. get_or l (length xs) 0) cut ∙ get_or_at xs end rest 0 (length xs) refl) (all (length xs) (omega (arith, ap length cut, length-append xs (end ∷ rest))))))
 
   -- the bytes before the first one out of range, that one, and what follows it
   module _ (bs : List ℕ) (n : ℕ) (inside : n < length bs) (all : (k : ℕ) → k < n → IsInRange low high (get_or bs k 0)) (front back : List ℕ) (front-is : front ≡ take n bs) (back-is : back ≡ drop n bs) where

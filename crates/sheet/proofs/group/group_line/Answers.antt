@@ -1,9 +1,9 @@
-use Rattle.std.proofs.Common.{drop, sym, subst}
+use Rattle.std.proofs.Common.{sym, subst}
 use Rattle.lines.specs.Places.{label_of}
 use Rattle.sheet.specs.Halts.{counts_of}
 use Rattle.sheet.specs.Read.{LineRead}
 use Rattle.sheet.proofs.Halting.{err_is}
-use Rattle.sheet.proofs.OneLine.{line_read, line_fault, no_line}
+use Rattle.sheet.proofs.OneLine.{line_read, line_fault}
 use Rattle.sheet.proofs.group.group_line.Goals as goal
 
 pub returns-in_err-kept : goal.returns-in_err-kept

@@ -2,7 +2,7 @@ use Rattle.std.proofs.Common.{◌≡◌, ◌++◌, drop, refl, ap, ◌∙◌, in
 use Rattle.std.specs.Option.{ok_or}
 use Rattle.text.proofs.Reading.{not_some, same_pair}
 use Rattle.lines.specs.declared.fault.TextFault.TheVariants as fault
-use Rattle.lines.specs.Lines.{header, header_of, entry_of, line_text}
+use Rattle.lines.specs.Lines.{header, header_of, line_text}
 use Rattle.sheet.proofs.Halting.{err_is, counted}
 use Rattle.sheet.proofs.OneLine.{not_header}
 use Rattle.sheet.proofs.header_reading.read_header.Goals as goal

@@ -1,8 +1,8 @@
-use Rattle.std.proofs.Common.{◌≡◌, ◌++◌, drop, refl, ap, ◌∙◌, inl, inr, arith, rules}
+use Rattle.std.proofs.Common.{◌++◌, drop, refl, ap, ◌∙◌, inl, inr, arith, rules}
 use Rattle.std.proofs.lemmas.List.{drop_all, length-drop}
 use Rattle.text.proofs.Reading.{not_some, same_pair}
-use Rattle.lines.specs.Lines.{line_text, entry_of, end}
-use Rattle.sheet.proofs.OneLine.{not_end, no_line}
+use Rattle.lines.specs.Lines.{line_text, end}
+use Rattle.sheet.proofs.OneLine.{not_end}
 use Rattle.sheet.proofs.reading.read_end.Goals as goal
 
 pub returns-in_default : goal.returns-in_default

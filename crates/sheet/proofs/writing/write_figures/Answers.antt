@@ -1,4 +1,4 @@
-use Rattle.std.proofs.Common.{Some, None, sym, subst, rules}
+use Rattle.std.proofs.Common.{Some, sym, subst, rules}
 use Rattle.text.specs.Writing.{Writes}
 use Rattle.sheet.specs.Render.{figure_part, figure_entry}
 use Rattle.sheet.proofs.Series.{writes_nothing}
