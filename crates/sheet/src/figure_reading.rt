@@ -7,6 +7,7 @@ ghost use Rattle.sheet.specs.Read.{RangedOf, figure0, figure_said, FigurePartRea
 use crate::group::{Group, read_group};
 use crate::header::Header;
 use crate::ranges::{cost, count};
+use crate::table_lines::figure_count;
 use lines::{FigureLine, Line, TextFault};
 use table::{Column, Figures, MAX_FIGURE_PART, MAX_GRADES};
 
@@ -57,7 +58,7 @@ impl Group for FigureLines {
     ghost said = { figure_said };
 
     fn count(header: &Header) -> usize {
-        if header.figured { header.grades } else { 0 }
+        figure_count(header.figured, header.grades)
     }
 
     fn keep(text: &Line<'_>, line: usize, i: usize, header: &Header) -> Result<Figure, TextFault> {

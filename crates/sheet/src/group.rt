@@ -95,6 +95,7 @@ pub(crate) fn read_group<G: Group, const N: usize>(
     let mut kept = [G::EMPTY; N];
     let mut label = [Span { start: 0, end: 0 }; N];
     let mut at = at;
+    // Two arrays are filled side by side by the line's number: a zip of both is no plainer.
     for i in 0..G::count(header) {
         (kept[i], label[i], at) = group_line::<G>(sheet, at, line + i, i, header)?;
     }

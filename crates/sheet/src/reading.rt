@@ -48,7 +48,7 @@ pub(crate) fn read_sheet(sheet: &[u8]) -> Result<Sheet, TextFault>
     let (arc, _, at) = read_group::<Arcs, MAX_ARCS>(sheet, at, line, &header)?;
     let line = line + header.arcs;
     let (figures, at) = read_figures(sheet, at, line, &header)?;
-    let line = line + figure_count(header.grades, &figures);
+    let line = line + figure_count(header.figured, header.grades);
     read_end(sheet, at, line)?;
     let table = Table {
         grades: header.grades,

@@ -2,10 +2,9 @@ ghost use Rattle.std.specs.Prelude.{◌≡◌, ℕ, ◌<◌, ◌≤◌, length, 
 ghost use Rattle.text.specs.Writing.{Writes};
 ghost use Rattle.lines.specs.declared.records.Line.{Line};
 ghost use Rattle.lines.specs.Lines.{Entry, entry_of, line_text};
-ghost use Rattle.sheet.specs.Read.{PlansIn};
-ghost use Rattle.sheet.specs.Render.{series, labels_of, figure_part, render};
+ghost use Rattle.sheet.specs.Render.{series, labels_of, render};
 ghost use Rattle.sheet.specs.Spans.{SpansIn};
-ghost use Rattle.sheet.specs.Written.{Wrote, OldTold};
+ghost use Rattle.sheet.specs.Written.{Wrote, OldTold, shown_of};
 
 use crate::labels::Labels;
 use crate::reading::{MAX_SHEET, read_sheet};
@@ -14,7 +13,7 @@ use crate::table_lines::{
 };
 use crate::write_fault::WriteFault;
 use lines::{Line, write_line};
-use table::{Figures, Table};
+use table::Page;
 
 /// Writes `n` lines, each as `line` makes it from its index.
 fn write_lines<'a, F: Fn(usize) -> Line<'a>>(
@@ -35,35 +34,20 @@ fn write_lines<'a, F: Fn(usize) -> Line<'a>>(
     Some(at)
 }
 
-/// The figure lines, where there are figures.
-fn write_figures(
-    out: &mut [u8],
-    at: usize,
-    table: &Table,
-    figures: &Option<Figures>,
-) -> Option<usize>
-    requires { (PlansIn table.now.grades table.now.rows figures.now) × (at ≤ length out.old) }
-    ensures { Writes out.old at (figure_part table.now.grades figures.now) result out.new }
-{
-    match figures {
-        Some(figures) => write_lines(out, at, table.grades, |i| figure_line(figures, i)),
-        None => Some(at),
-    }
-}
-
 /// Writes the whole sheet, and returns its length, or `None` where it has no room.
 fn write_all(
     out: &mut [u8],
-    table: &Table,
-    figures: &Option<Figures>,
+    page: &Page,
+    figured: bool,
     labels: &Labels,
     old: &[u8],
 ) -> Option<usize>
-    requires { (SpansIn table.now.grades (length old.now) labels.now.grade) × ((SpansIn table.now.rows (length old.now) labels.now.row) × (PlansIn table.now.grades table.now.rows figures.now)) }
-    ensures { Writes out.old 0 (render table.now figures.now (labels_of old.now labels.now.grade) (labels_of old.now labels.now.row)) result out.new }
+    requires { (SpansIn page.now.sound.table.grades (length old.now) labels.now.grade) × (SpansIn page.now.sound.table.rows (length old.now) labels.now.row) }
+    ensures { Writes out.old 0 (render page.now.sound.table (shown_of figured page.now.figures) (labels_of old.now labels.now.grade) (labels_of old.now labels.now.row)) result out.new }
 {
-    let header = header_line(table, figure_count(table.grades, figures));
-    let at = write_line(out, 0, &header)?;
+    let table = &page.sound.table;
+    let figures = figure_count(figured, table.grades);
+    let at = write_line(out, 0, &header_line(table, figures))?;
     let at = write_lines(
         out,
         at,
@@ -77,29 +61,29 @@ fn write_all(
         |i| row_line(table, i, part(old, labels.row[i])),
     )?;
     let at = write_lines(out, at, table.arcs, |i| arc_line(table, i))?;
-    let at = write_figures(out, at, table, figures)?;
+    let at = write_lines(out, at, figures, |i| figure_line(&page.figures, i))?;
     write_line(out, at, &Line::End)
 }
 
-/// Writes the table, with figures where they are given, as a sheet with the labels of the sheet `old`, and returns the
+/// Writes the page, with figures where they are wanted, as a sheet with the labels of the sheet `old`, and returns the
 /// sheet's length. What `out` holds beyond that stays.
 pub(crate) fn write(
     out: &mut [u8],
-    table: &Table,
-    figures: &Option<Figures>,
+    page: &Page,
+    figured: bool,
     old: &[u8],
 ) -> Result<usize, WriteFault>
-    requires { PlansIn table.now.grades table.now.rows figures.now }
-    ensures wrote { Wrote out.old old.now table.now figures.now result out.new }
-    ensures old { OldTold old.now table.now result }
+    ensures wrote { Wrote out.old old.now page.now.sound.table (shown_of figured page.now.figures) result out.new }
+    ensures old { OldTold old.now page.now.sound.table result }
 {
     let sheet = read_sheet(old)?;
+    let table = &page.sound.table;
     if sheet.table.grades != table.grades || sheet.table.rows != table.rows {
         return Err(WriteFault::OldSheet { line: 0 });
     }
     // The draft has room for every sheet, so that the length is known before `out` is touched.
     let mut draft = [0; MAX_SHEET];
-    let Some(n) = write_all(&mut draft, table, figures, &sheet.labels, old) else {
+    let Some(n) = write_all(&mut draft, page, figured, &sheet.labels, old) else {
         unreachable()
     };
     if n > out.len() {

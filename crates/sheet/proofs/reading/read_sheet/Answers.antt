@@ -1,4 +1,4 @@
-use Rattle.std.proofs.Common.{◌≡◌, ℕ, ◌+◌, List, ◌++◌, drop, sym, ap, ◌∙◌, subst, arith}
+use Rattle.std.proofs.Common.{◌≡◌, ℕ, ◌+◌, List, ◌++◌, drop, ap, ◌∙◌, subst, arith}
 use Rattle.table.specs.Ranges.{row0, arc0}
 use Rattle.lines.specs.Lines.{line_text, end}
 use Rattle.sheet.specs.Due.{grade, row, arc}
@@ -83,7 +83,7 @@ returns-in_err-read_end c =
     let k = counts_of h in
     let sheet = c.args.sheet.now in
     let figures = c.in_ok-figures in
-    let count : c.figure_count.result ≡ k.figures = c.figure_count.ensures ∙ sym figures.ensures.counted in
+    let count : c.figure_count.result ≡ k.figures = c.figure_count.ensures in
     rw (err_is _ _ c.from_residual-in_err-read_end.ensures.1)
     (end_stop header.header sheet _ (omega arith) _ header.ensures.0 _ (group_through k grade grade_said sheet 0 _ _ _ _ _ c.in_ok-first_row.ensures) _ (group_through k row row_said sheet row0 _ _ _ _ _ c.in_ok-row.ensures) _ (group_through k arc arc_said sheet arc0 _ _ _ _ _ c.in_ok-arc.ensures) _ figures.ensures.through
     (subst (λ n. EndFault (2 + h.grades + h.rows + h.arcs + n) (drop figures.at sheet) c.in_err-read_end.field-0.0) count c.in_err-read_end.ensures))

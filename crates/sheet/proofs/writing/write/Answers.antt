@@ -1,6 +1,7 @@
 use Rattle.std.proofs.Common.{length, refl, inr, arith}
 use Rattle.sheet.specs.Render.{labels_of}
-use Rattle.sheet.specs.Written.{relabelled}
+use Rattle.sheet.specs.Written.{relabelled, shown_of}
+use Rattle.sheet.proofs.Contents.{shown_plans}
 use Rattle.sheet.proofs.Copied.{copied}
 use Rattle.sheet.proofs.Halting.{err_is}
 use Rattle.sheet.proofs.Lengths.{render_short}
@@ -21,10 +22,10 @@ returns-then-sheet-table-clause-old c =
 pub unreachable-requires : goal.unreachable-requires
 unreachable-requires c =
     let old = c.args.old.now in
-    let t = c.args.table.now in
+    let t = c.args.page.now.sound.table in
     let s = c.in_ok-sheet.sheet in
     let reads = c.in_ok-sheet.ensures in
-    let short = render_short t c.args.figures.now (labels_of old s.labels.grade) (labels_of old s.labels.row) (λ i h. reads.grade_labels i (omega arith)) (λ i h. reads.row_labels i (omega arith)) c.requires in
+    let short = render_short t (shown_of c.args.figured c.args.page.now.figures) (labels_of old s.labels.grade) (labels_of old s.labels.row) (λ i h. reads.grade_labels i (omega arith)) (λ i h. reads.row_labels i (omega arith)) (shown_plans c.args.figured t.grades t.rows c.args.page.now.figures c.args.page.now.planned) in
     omega (arith, c.in_default.ensures.0)
 
 pub returns-then-n-out-clause-wrote : goal.returns-then-n-out-clause-wrote
@@ -41,6 +42,6 @@ returns-clause-wrote c =
         record { reads = c.in_ok-sheet.ensures; grades = omega arith; rows = omega arith },
         omega (arith, told.0),
         omega arith,
-        copied c.args.out.now _ _ (relabelled c.args.old.now c.args.table.now c.args.figures.now s) c.copy_from_slice.new.self c.in-Some.n told c.copy_from_slice.ensures.after,
+        copied c.args.out.now _ _ (relabelled c.args.old.now c.args.page.now.sound.table (shown_of c.args.figured c.args.page.now.figures) s) c.copy_from_slice.new.self c.in-Some.n told c.copy_from_slice.ensures.after,
       ),
     )
