@@ -1,4 +1,6 @@
 //! Reading one line: its form, and no ranges.
+//!
+//! Each kind has other fields, so each has a function of its own: no code would use a trait of them.
 
 ghost use Rattle.std.specs.Prelude.{◌≡◌, ◌+◌, ◌<◌, ◌≤◌, length, drop, MatchResult};
 ghost use Rattle.text.specs.Fields.{byte_of};
@@ -145,11 +147,9 @@ pub fn line_at(sheet: &[u8], at: usize) -> Result<(Line<'_>, usize), TextFault>
     ensures reads { Reads Good line_text (drop at sheet.now) (seen_at sheet.now result) }
     ensures place { MatchResult result (λ p. (at < p.1) × (p.1 ≤ length sheet.now) × (length (label_of p.0) + 1 + at ≤ p.1)) (λ e. e ≡ TextFault.NoLine at) }
 {
-    if at > sheet.len() {
-        return Err(TextFault::NoLine { place: at });
-    }
-    match read_line(&sheet[at..]) {
-        Some((line, rest)) => Ok((line, sheet.len() - rest.len())),
-        None => Err(TextFault::NoLine { place: at }),
-    }
+    let (line, rest) = sheet
+        .get(at..)
+        .and_then(read_line)
+        .ok_or(TextFault::NoLine { place: at })?;
+    Ok((line, sheet.len() - rest.len()))
 }

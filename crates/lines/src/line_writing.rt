@@ -1,4 +1,4 @@
-//! Writing one line.
+//! Writing one line, each kind by a function of its own as in reading.
 
 ghost use Rattle.text.specs.Fields.{byte_of};
 ghost use Rattle.text.specs.Writing.{Writes};

@@ -1,11 +1,13 @@
 -- The lines of a rendering, each of good form.
-use Rattle.std.proofs.Common.{◌≡◌, ℕ, ◌+◌, ◌<◌, ◌≤◌, List, ◌++◌, get_or, pos, Some, None, Option, append_assoc, arith}
+use Rattle.std.proofs.Common.{◌≡◌, ℕ, Bool, true, false, cond, refl, ◌+◌, ◌<◌, ◌≤◌, List, ◌++◌, get_or, pos, Some, None, Option, append_assoc, arith}
 use Rattle.text.specs.Fields.{Small, Label}
 use Rattle.table.specs.declared.figures.Figures.{Figures}
 use Rattle.table.specs.declared.table.Table.{Table}
 use Rattle.table.specs.Ranges.{FirstsIn, row0, arc0}
 use Rattle.lines.specs.Lines.{Good, line_text, end}
-use Rattle.sheet.specs.Render.{grade_entry, row_entry, arc_entry, figure_entry, grades_text, rows_text, arcs_text, figure_part, figures_of, header_entry, render}
+use Rattle.sheet.specs.Read.{PlansIn}
+use Rattle.sheet.specs.Written.{shown_of}
+use Rattle.sheet.specs.Render.{series, grade_entry, row_entry, arc_entry, figure_entry, grades_text, rows_text, arcs_text, figure_part, figures_of, header_entry, render}
 
 -- numbers in their ranges have few digits
 pub small : (n : ℕ) → n ≤ 1000 → Small (pos n)
@@ -66,3 +68,17 @@ in_parts t f gl rl = regroup (line_text (header_entry t (figures_of t.grades f))
   where
     regroup : (a b c d e f : List ℕ) → ((((a ++ b) ++ c) ++ d) ++ e) ++ f ≡ a ++ (b ++ (c ++ (d ++ (e ++ f))))
     regroup a b c d e f = simp append_assoc
+
+-- a page's figures, shown or not
+pub shown_count : (figured : Bool) (n : ℕ) (f : Figures) → cond figured n 0 ≡ figures_of n (shown_of figured f)
+shown_count true n f = refl
+shown_count false n f = refl
+
+pub shown_part : (figured : Bool) (n : ℕ) (f : Figures) → series (λ i. line_text (figure_entry f.row f.floor.at f.ceiling.at i)) (cond figured n 0) ≡ figure_part n (shown_of figured f)
+shown_part true n f = refl
+shown_part false n f = refl
+
+-- its plan rows are in range, also where they are not shown
+pub shown_plans : (figured : Bool) (grades rows : ℕ) (f : Figures) → FirstsIn grades rows f.row → PlansIn grades rows (shown_of figured f)
+shown_plans true grades rows f plans = plans
+shown_plans false grades rows f plans = tt

@@ -1,12 +1,6 @@
-pub mod OneKind
 pub mod Keeps
 pub mod Series
 pub mod Parts
-pub mod GradeSteps
-pub mod RowSteps
-pub mod ArcSteps
-pub mod FigureSteps
-pub mod HeaderSteps
 pub mod Lengths
 pub mod Copied
 pub mod Once
@@ -16,5 +10,8 @@ pub mod Accepted
 pub mod RoundTrips
 pub mod RefusedLines
 pub mod Stopping
+pub mod OneLine
+pub mod GroupSteps
+pub mod Kept
 pub mod Halting
 pub mod Refusing

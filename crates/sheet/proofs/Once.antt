@@ -8,7 +8,10 @@ use Rattle.sheet.specs.Laws.{RefusedOnce}
 use Rattle.lines.proofs.LineKinds.{prefix_free}
 
 -- a line says one thing
-entry_inj : (s : Slot) (x y : Said s) → entry s x ≡ entry s y → x ≡ y
+pub header_inj : (x y : HeaderOf) → header x ≡ header y → x ≡ y
+header_inj x y e = cc
+
+pub entry_inj : (s : Slot) (x y : Said s) → entry s x ≡ entry s y → x ≡ y
 entry_inj (grade i) x y e = cc
 entry_inj (row i) x y e = cc
 entry_inj (arc i) x y e = cc
@@ -77,8 +80,7 @@ header_good c k =
 pub header_once : (bs : List ℕ) (h k : HeaderOf) (u v : List ℕ) → Good (header h) → Good (header k) → bs ≡ line_text (header h) ++ u → bs ≡ line_text (header k) ++ v → (h ≡ k) × (u ≡ v)
 header_once bs h k u v g g' p q =
     let same = prefix_free (header h) (header k) u v g g' (sym p ∙ q) in
-    let one : header h ≡ header k = same.0 in
-    ((cc), same.1)
+    (header_inj h k same.0, same.1)
 
 pub headed_once : (bs : List ℕ) (c d : Counts) (u v : List ℕ) → HeaderTaken bs c u → HeaderTaken bs d v → (c ≡ d) × (u ≡ v)
 headed_once bs c d u v a b =

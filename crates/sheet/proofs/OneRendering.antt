@@ -10,8 +10,8 @@ use Rattle.sheet.specs.Read.{PlansIn}
 use Rattle.sheet.specs.Render.{series, grade_entry, row_entry, arc_entry, figure_entry, figure_part, figures_of, header_entry}
 use Rattle.sheet.specs.Laws.{SameFigure, SameFigures, RenderingOne}
 use Rattle.lines.proofs.LineKinds.{prefix_free}
-use Rattle.sheet.proofs.Once.{pos_inj}
-use Rattle.sheet.proofs.OneKind.{header_inj, grade_inj, row_inj, arc_inj, figure_inj}
+use Rattle.sheet.specs.Due as due
+use Rattle.sheet.proofs.Once.{pos_inj, header_inj, entry_inj}
 use Rattle.sheet.proofs.Contents.{header_good, grade_good, row_good, arc_good, figure_good, in_parts, after_arcs, after_rows, after_grades, after_header}
 
 -- as many lines of good form, with the same text and what stands after them, are the same lines
@@ -43,7 +43,7 @@ same_arc a b p q v =
 
 figure_said : (f g : Figures) (i : ℕ) → figure_entry f.row f.floor.at f.ceiling.at i ≡ figure_entry g.row g.floor.at g.ceiling.at i → SameFigure f g i
 figure_said f g i e =
-    let p = figure_inj _ _ e in
+    let p = entry_inj (due.figure 0) _ _ e in
     record {
       plan = pos_inj (get_or f.row i 0) (get_or g.row i 0) (ap (λ x. x.1.0) p);
       floor = λ j. (ap (λ x. x.1.1.0) p j, ap (λ x. x.1.1.1.0) p j);
@@ -80,10 +80,10 @@ rendering_one t u f g gl gl' rl rl' one two same =
       numerator = pos_inj t.numerator u.numerator (ap (λ x. x.1.0) h);
       denominator = pos_inj t.denominator u.denominator (ap (λ x. x.1.1.0) h);
       fineness = pos_inj t.fineness u.fineness (ap (λ x. x.1.1.1.0) h);
-      firsts = λ i lt. pos_inj (get_or t.first_row i 0) (get_or u.first_row i 0) (ap (λ x. x.1.0) (grade_inj _ _ (q.0 i lt)));
-      row = λ i lt. let w = row_inj _ _ (r.0 i lt) in same_row (get_or t.row i row0) (get_or u.row i row0) (ap (λ x. x.0.1.0) w) (ap (λ x. x.0.1.1.0) w) (ap (λ x. x.0.1.1.1) w) (ap (λ x. x.1.0) w);
-      arc = λ i lt. let w = arc_inj _ _ (a.0 i lt) in same_arc (get_or t.arc i arc0) (get_or u.arc i arc0) (ap (λ x. x.1.0) w) (ap (λ x. x.1.1.0) w) (ap (λ x. x.1.1.1) w);
+      firsts = λ i lt. pos_inj (get_or t.first_row i 0) (get_or u.first_row i 0) (ap (λ x. x.1.0) (entry_inj (due.grade 0) _ _ (q.0 i lt)));
+      row = λ i lt. let w = entry_inj (due.row 0) _ _ (r.0 i lt) in same_row (get_or t.row i row0) (get_or u.row i row0) (ap (λ x. x.0.1.0) w) (ap (λ x. x.0.1.1.0) w) (ap (λ x. x.0.1.1.1) w) (ap (λ x. x.1.0) w);
+      arc = λ i lt. let w = entry_inj (due.arc 0) _ _ (a.0 i lt) in same_arc (get_or t.arc i arc0) (get_or u.arc i arc0) (ap (λ x. x.1.0) w) (ap (λ x. x.1.1.0) w) (ap (λ x. x.1.1.1) w);
       figures = figures_one t u f g (line_text end) (line_text end) grades-is (pos_inj few few' (ap (λ x. x.1.1.1.1) h)) one.plans two.plans a.1;
-      grade_labels = λ i lt. ap (λ x. x.1.1) (grade_inj _ _ (q.0 i lt));
-      row_labels = λ i lt. ap (λ x. x.1.1) (row_inj _ _ (r.0 i lt));
+      grade_labels = λ i lt. ap (λ x. x.1.1) (entry_inj (due.grade 0) _ _ (q.0 i lt));
+      row_labels = λ i lt. ap (λ x. x.1.1) (entry_inj (due.row 0) _ _ (r.0 i lt));
     }

@@ -2,7 +2,7 @@
 use Rattle.std.proofs.Common.{◌≡◌, ℕ, zero, suc, ◌+◌, ◌-◌, ◌<◌, ◌≤◌, List, [], ◌++◌, length, take, drop, Some, None, Option, sym, ap, ◌∙◌, subst, add-one, arith}
 use Rattle.std.proofs.lemmas.List.{length-append, take-append-drop}
 use Rattle.text.specs.Writing.{Writes}
-use Rattle.text.proofs.Writing.{writes_then, writes_none}
+use Rattle.text.proofs.Writing.{writes_then}
 use Rattle.lines.specs.Lines.{Entry, line_text}
 use Rattle.sheet.specs.Render.{series}
 
@@ -40,20 +40,3 @@ module _ (g : ℕ → Entry) (xs : List ℕ) (at i j : ℕ) (ys : List ℕ) (so_
 
   pub line_short : (n : ℕ) (zs : List ℕ) → i < n → Writes ys j (line_text e) None zs → Writes xs at (series (λ k. line_text (g k)) n) None zs
   line_short n zs h v = writes_short (λ k. line_text (g k)) xs at (i + 1) n zs (omega arith) (line_more None zs v)
-
--- six parts, one after another, and where the first of them that has no room stands
-module _ (xs : List ℕ) (at : ℕ) (h g r a f e : List ℕ) where
-  pub stop_f : (zs : List ℕ) → Writes xs at ((((h ++ g) ++ r) ++ a) ++ f) None zs → Writes xs at (((((h ++ g) ++ r) ++ a) ++ f) ++ e) None zs
-  stop_f zs w = writes_none xs at ((((h ++ g) ++ r) ++ a) ++ f) zs e w
-
-  pub stop_a : (zs : List ℕ) → Writes xs at (((h ++ g) ++ r) ++ a) None zs → Writes xs at (((((h ++ g) ++ r) ++ a) ++ f) ++ e) None zs
-  stop_a zs w = stop_f zs (writes_none xs at (((h ++ g) ++ r) ++ a) zs f w)
-
-  pub stop_r : (zs : List ℕ) → Writes xs at ((h ++ g) ++ r) None zs → Writes xs at (((((h ++ g) ++ r) ++ a) ++ f) ++ e) None zs
-  stop_r zs w = stop_a zs (writes_none xs at ((h ++ g) ++ r) zs a w)
-
-  pub stop_g : (zs : List ℕ) → Writes xs at (h ++ g) None zs → Writes xs at (((((h ++ g) ++ r) ++ a) ++ f) ++ e) None zs
-  stop_g zs w = stop_r zs (writes_none xs at (h ++ g) zs r w)
-
-  pub stop_h : (zs : List ℕ) → Writes xs at h None zs → Writes xs at (((((h ++ g) ++ r) ++ a) ++ f) ++ e) None zs
-  stop_h zs w = stop_g zs (writes_none xs at h zs g w)

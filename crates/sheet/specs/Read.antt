@@ -1,19 +1,21 @@
 -- What the readers of a sheet's lines promise. Assumes nothing.
-use Rattle.std.specs.Prelude.{◌≡◌, ℕ, ◌+◌, ◌<◌, ◌≤◌, Bool, cond, List, ◌++◌, length, drop, ℤ, pos, Some, None, Option, slice_index_or}
-use Rattle.text.specs.Fields.{Label}
+use Rattle.std.specs.Prelude.{◌≡◌, ℕ, ◌+◌, ◌-◌, ◌<◌, ◌≤◌, ◌⊎◌, List, ◌++◌, length, get_or, drop, ℤ, pos, Some, None, Ok, Err, Option, Result, ◌≢◌}
 use Rattle.table.specs.declared.figures.Figures.{Figures}
 use Rattle.table.specs.declared.rows.Arc.{Arc}
 use Rattle.table.specs.declared.rows.Row.{Row}
-use Rattle.table.specs.Ranges.{Within, FirstsIn, RowIn, ArcIn, FigureIn, FiguresIn, row0, arc0}
+use Rattle.table.specs.Ranges.{Within, FirstsIn}
 use Rattle.lines.specs.declared.fault.TextFault.{TextFault}
 use Rattle.lines.specs.declared.fault.TextFault.TheVariants as fault
+use Rattle.lines.specs.declared.records.Line.{Line}
+use Rattle.lines.specs.Lines.{Entry, GradeOf, RowOf, ArcOf, FigureOf, line_text, Good}
+use Rattle.lines.specs.Places.{label_of}
 use Rattle.sheet.specs.declared.labels.Span.{Span}
-use Rattle.lines.specs.declared.records.ArcLine.{ArcLine}
-use Rattle.lines.specs.declared.records.FigureLine.{FigureLine}
-use Rattle.lines.specs.declared.records.HeaderLine.{HeaderLine}
-use Rattle.lines.specs.declared.records.RowLine.{RowLine}
-use Rattle.lines.specs.Lines.{grade, row, arc, figure, line_text}
-use Rattle.sheet.specs.Render.{part_of, labels_of, grades_text, rows_text, arcs_text, figures_text, figure_part, figures_of, counts_entry}
+use Rattle.sheet.specs.declared.figure_reading.Figure.{Figure}
+use Rattle.sheet.specs.declared.header.Header.{Header}
+use Rattle.sheet.specs.Due.{Counts, Slot, figure, Said, entry, Ranged, group}
+use Rattle.sheet.specs.Halts.{counts_of}
+use Rattle.sheet.specs.Refused.{Through}
+use Rattle.sheet.specs.Render.{series, part_of, labels_of, figure_part, figures_of}
 use Rattle.sheet.specs.Spans.{SpanIn, SpansIn}
 
 -- z as a count from low to high, and none exactly where it is not one
@@ -21,130 +23,67 @@ abbrev pub CountOf : ℤ → ℕ → ℕ → Option ℕ → Type 0
 CountOf z low high (Some n) = (z ≡ pos n) × Within low high n
 CountOf z low high None = (n : ℕ) → z ≡ pos n → Within low high n → ⊥
 
--- a fault of form or range, at a line from low to high
-abbrev pub FaultIn : ℕ → ℕ → TextFault → Type 0
-FaultIn low high fault.TooLong = ⊥
-FaultIn low high (fault.Form l) = Within low high l
-FaultIn low high (fault.Range l) = Within low high l
-FaultIn low high (fault.NoLine p) = ⊥
-
--- a fault of form, at a line from low to high
-abbrev pub FormIn : ℕ → ℕ → TextFault → Type 0
-FormIn low high fault.TooLong = ⊥
-FormIn low high (fault.Form l) = Within low high l
-FormIn low high (fault.Range l) = ⊥
-FormIn low high (fault.NoLine p) = ⊥
-
 -- each grade's plan row is one of the rows, where there are figures
 abbrev pub PlansIn : ℕ → ℕ → Option Figures → Type 0
 PlansIn grades rows (Some f) = FirstsIn grades rows f.row
 PlansIn grades rows None = Unit {0}
 
--- the line at the place at says that of the grade i + 1, and next is the place after it
-pub record GradeRead (sheet : List ℕ) (at i rows first : ℕ) (span : Span) (next : ℕ) : Type 0 where
-  pub ranged : Within 1 rows first
-  pub inside : SpanIn (length sheet) span
+-- what is kept of what a line says, all of it in range, and none exactly where it is not in range
+abbrev pub RangedOf : {K : Type 0} → Counts → (s : Slot) → (K → Said s) → Said s → Option K → Type 0
+RangedOf c s said y (Some x) = (y ≡ said x) × Ranged c s (said x)
+RangedOf c s said y None = Ranged c s y → ⊥
+
+-- what a reader keeps of a line of a group: all that it says, in range; and else the fault of the sheet's line l
+abbrev pub KeptOf : {K : Type 0} → Counts → (s : Slot) → (K → Said s) → ℕ → Entry → Result K TextFault → Type 0
+KeptOf c s said l e (Ok x) = (e ≡ entry s (said x)) × Ranged c s (said x)
+KeptOf c s said l e (Err f) = (((y : Said s) → e ≢ entry s y) × (f ≡ fault.Form l)) ⊎ ((y : Said s) × (e ≡ entry s y) × (Ranged c s y → ⊥) × (f ≡ fault.Range l))
+
+-- what the line i + 1 of each group says, from its label and what is kept of it
+abbrev pub grade_said : List ℕ → ℕ → ℕ → GradeOf
+grade_said label i first = (pos (i + 1), (pos first, label))
+
+abbrev pub row_said : List ℕ → ℕ → Row → RowOf
+row_said label i r = ((pos (i + 1), (pos r.next, (r.cost.0, r.cost.1))), (pos r.first_arc, label))
+
+abbrev pub arc_said : List ℕ → ℕ → Arc → ArcOf
+arc_said label i a = (pos (i + 1), (pos a.next, (pos a.destination, pos a.weight)))
+
+abbrev pub figure_said : List ℕ → ℕ → Figure → FigureOf
+figure_said label i f = (pos (i + 1), (pos f.row, (f.floor.0, (f.floor.1, (f.ceiling.0, f.ceiling.1)))))
+
+-- what stands for the figures beyond the grades
+abbrev pub figure0 : Figure
+figure0 = record { row = 0; floor = (pos 0, pos 0); ceiling = (pos 0, pos 0) }
+
+-- where the label lies of a line that ends before the place next
+abbrev pub span_of : Line → ℕ → Span
+span_of l next = record { start = next - 1 - length (label_of l); end = next - 1 }
+
+-- the line at the place at is due there, in range, and says that with the label that lies there; next is the place after it
+pub record LineRead (c : Counts) (s : Slot) (said : List ℕ → Said s) (sheet : List ℕ) (at : ℕ) (label : Span) (next : ℕ) : Type 0 where
+  pub inside : SpanIn (length sheet) label
   pub ends : next ≤ length sheet
-  pub label : Label (part_of sheet span)
-  pub text : drop at sheet ≡ line_text (grade (pos (i + 1), (pos first, part_of sheet span))) ++ drop next sheet
+  pub good : Good (entry s (said (part_of sheet label)))
+  pub ranged : Ranged c s (said (part_of sheet label))
+  pub text : drop at sheet ≡ line_text (entry s (said (part_of sheet label))) ++ drop next sheet
 
--- the lines from the place at on say that of the grades
-pub record GradesRead (sheet : List ℕ) (at grades rows : ℕ) (firsts : List ℕ) (spans : List Span) (next : ℕ) : Type 0 where
-  pub ranged : FirstsIn grades rows firsts
-  pub inside : SpansIn grades (length sheet) spans
+-- the line k + 1 of a group, from what is kept of each line and where the labels lie
+abbrev pub told : {K : Type 0} (slot : ℕ → Slot) → (List ℕ → (i : ℕ) → K → Said (slot i)) → List ℕ → K → List K → List Span → (k : ℕ) → Said (slot k)
+told slot said sheet empty xs labels k = said (labels_of sheet labels k) k (get_or xs k empty)
+
+-- the n lines from the place at on are those of a group, in range, and say that; next is the place after them, and nothing is kept beyond them
+pub record GroupRead {K : Type 0} (c : Counts) (slot : ℕ → Slot) (said : List ℕ → (i : ℕ) → K → Said (slot i)) (sheet : List ℕ) (at n : ℕ) (empty : K) (xs : List K) (labels : List Span) (next : ℕ) : Type 0 where
+  pub inside : SpansIn n (length sheet) labels
   pub ends : next ≤ length sheet
-  pub labels : (i : ℕ) → i < grades → Label (labels_of sheet spans i)
-  pub text : drop at sheet ≡ grades_text firsts (labels_of sheet spans) grades ++ drop next sheet
-
--- what a line says of its row
-pub record RowSaid (rows arcs : ℕ) (l : RowLine) (r : Row) : Type 0 where
-  pub ranged : RowIn rows arcs r
-  pub next : l.next ≡ pos r.next
-  pub one : l.first_part ≡ r.cost.0
-  pub two : l.second_part ≡ r.cost.1
-  pub arc : l.first_arc ≡ pos r.first_arc
-
--- the line at the place at says that of the row i + 1
-pub record RowRead (sheet : List ℕ) (at i rows arcs : ℕ) (r : Row) (span : Span) (next : ℕ) : Type 0 where
-  pub ranged : RowIn rows arcs r
-  pub inside : SpanIn (length sheet) span
-  pub ends : next ≤ length sheet
-  pub label : Label (part_of sheet span)
-  pub text : drop at sheet ≡ line_text (row ((pos (i + 1), (pos r.next, (r.cost.0, r.cost.1))), (pos r.first_arc, part_of sheet span))) ++ drop next sheet
-
--- the n lines from the place at on say that of the rows
-pub record RowsRead (sheet : List ℕ) (at n rows arcs : ℕ) (rs : List Row) (spans : List Span) (next : ℕ) : Type 0 where
-  pub ranged : (i : ℕ) → i < n → RowIn rows arcs (slice_index_or rs i row0)
-  pub inside : SpansIn n (length sheet) spans
-  pub ends : next ≤ length sheet
-  pub labels : (i : ℕ) → i < n → Label (labels_of sheet spans i)
-  pub text : drop at sheet ≡ rows_text rs (labels_of sheet spans) n ++ drop next sheet
-
--- what a line says of its arc
-pub record ArcSaid (grades arcs total : ℕ) (l : ArcLine) (a : Arc) : Type 0 where
-  pub ranged : ArcIn grades arcs total a
-  pub next : l.next ≡ pos a.next
-  pub destination : l.destination ≡ pos a.destination
-  pub weight : l.weight ≡ pos a.weight
-
--- the line at the place at says that of the arc i + 1
-pub record ArcRead (sheet : List ℕ) (at i grades arcs total : ℕ) (a : Arc) (next : ℕ) : Type 0 where
-  pub ranged : ArcIn grades arcs total a
-  pub ends : next ≤ length sheet
-  pub text : drop at sheet ≡ line_text (arc (pos (i + 1), (pos a.next, (pos a.destination, pos a.weight)))) ++ drop next sheet
-
--- the n lines from the place at on say that of the arcs
-pub record ArcsRead (sheet : List ℕ) (at n grades arcs total : ℕ) (xs : List Arc) (next : ℕ) : Type 0 where
-  pub ranged : (i : ℕ) → i < n → ArcIn grades arcs total (slice_index_or xs i arc0)
-  pub ends : next ≤ length sheet
-  pub text : drop at sheet ≡ arcs_text xs n ++ drop next sheet
-
--- what a line says of its grade's plan row, floor and ceiling
-pub record FigureSaid (rows : ℕ) (l : FigureLine) (plan : ℕ) (low high : ℤ × ℤ) : Type 0 where
-  pub planned : Within 1 rows plan
-  pub lower : FigureIn low
-  pub upper : FigureIn high
-  pub plan_is : l.row ≡ pos plan
-  pub low_one : l.floor_first ≡ low.0
-  pub low_two : l.floor_second ≡ low.1
-  pub high_one : l.ceiling_first ≡ high.0
-  pub high_two : l.ceiling_second ≡ high.1
-
--- the line at the place at says that of the grade i + 1
-pub record FigureRead (sheet : List ℕ) (at i rows plan : ℕ) (low high : ℤ × ℤ) (next : ℕ) : Type 0 where
-  pub planned : Within 1 rows plan
-  pub lower : FigureIn low
-  pub upper : FigureIn high
-  pub ends : next ≤ length sheet
-  pub text : drop at sheet ≡ line_text (figure (pos (i + 1), (pos plan, (low.0, (low.1, (high.0, high.1)))))) ++ drop next sheet
-
--- the n lines from the place at on say that of the grades' plan rows, floors and ceilings
-pub record FiguresRead (sheet : List ℕ) (at n rows : ℕ) (plan : List ℕ) (floors ceilings : List (ℤ × ℤ)) (next : ℕ) : Type 0 where
-  pub planned : FirstsIn n rows plan
-  pub lower : FiguresIn floors
-  pub upper : FiguresIn ceilings
-  pub ends : next ≤ length sheet
-  pub text : drop at sheet ≡ figures_text plan floors ceilings n ++ drop next sheet
+  pub good : (k : ℕ) → k < n → Good (entry (slot k) (told slot said sheet empty xs labels k))
+  pub ranged : (k : ℕ) → k < n → Ranged c (slot k) (told slot said sheet empty xs labels k)
+  pub text : drop at sheet ≡ series (λ k. line_text (entry (slot k) (told slot said sheet empty xs labels k))) n ++ drop next sheet
+  pub beyond : (k : ℕ) → n ≤ k → get_or xs k empty ≡ empty
 
 -- where the header says that there are figures, the lines say them, and else there are none
-pub record FigurePartRead (sheet : List ℕ) (at : ℕ) (figured : Bool) (grades rows : ℕ) (figures : Option Figures) (next : ℕ) : Type 0 where
-  pub planned : PlansIn grades rows figures
-  pub counted : cond figured grades 0 ≡ figures_of grades figures
+pub record FigurePartRead (h : Header) (sheet : List ℕ) (at : ℕ) (figures : Option Figures) (next : ℕ) : Type 0 where
+  pub planned : PlansIn h.grades h.rows figures
+  pub counted : (counts_of h).figures ≡ figures_of h.grades figures
   pub ends : next ≤ length sheet
-  pub text : drop at sheet ≡ figure_part grades figures ++ drop next sheet
-
--- the first line says that, and next is the place after it
-pub record HeaderRead (sheet : List ℕ) (grades rows arcs total numerator denominator fineness figures next : ℕ) : Type 0 where
-  pub ends : next ≤ length sheet
-  pub text : sheet ≡ line_text (counts_entry grades rows arcs total numerator denominator fineness figures) ++ drop next sheet
-
--- what the first line says
-pub record HeaderSaid (l : HeaderLine) (grades rows arcs total numerator denominator fineness figures : ℕ) : Type 0 where
-  pub one : l.grades ≡ pos grades
-  pub two : l.rows ≡ pos rows
-  pub three : l.arcs ≡ pos arcs
-  pub four : l.total ≡ pos total
-  pub five : l.numerator ≡ pos numerator
-  pub six : l.denominator ≡ pos denominator
-  pub seven : l.fineness ≡ pos fineness
-  pub eight : l.figures ≡ pos figures
+  pub text : drop at sheet ≡ figure_part h.grades figures ++ drop next sheet
+  pub through : Through (counts_of h) (group figure (counts_of h).figures) (drop at sheet) (drop next sheet)

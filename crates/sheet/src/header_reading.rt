@@ -1,19 +1,17 @@
-ghost use Rattle.std.specs.Prelude.{◌≡◌, if◌then◌else◌, Some, None, Ok, Err};
+ghost use Rattle.std.specs.Prelude.{◌≡◌, ◌≤◌, length, drop, Some, None, Ok, Err, ◌≢◌};
 ghost use Rattle.lines.specs.Lines.{header_of};
 ghost use Rattle.sheet.specs.Due.{Counts, Counted, header_said};
-ghost use Rattle.sheet.specs.Halts.{HeaderFault};
-ghost use Rattle.sheet.specs.Read.{FaultIn, HeaderSaid, HeaderRead};
+ghost use Rattle.sheet.specs.Halts.{counts_of, HeaderFault};
+ghost use Rattle.sheet.specs.Refused.{HeaderTaken};
 
 use crate::header::Header;
-use crate::kind_reading::header_at;
 use crate::ranges::count;
-use lines::{HeaderLine, TextFault};
+use lines::{HeaderLine, Line, TextFault, line_at};
 use table::{MAX_ARCS, MAX_DENOMINATOR, MAX_FINENESS, MAX_GRADES, MAX_ROWS, MAX_TOTAL};
 
 /// The line's numbers, where all of them are in range.
 fn header_of(line: &HeaderLine) -> Option<Header>
-    ensures said { elim result [ Some h ↦ HeaderSaid line.now h.grades h.rows h.arcs h.total h.numerator h.denominator h.fineness (if h.figured then h.grades else 0) | None ↦ Unit {0} ] }
-    ensures out { elim result [ Some _ ↦ Unit {0} | None ↦ (c : Counts) → Counted c → header_of line.now ≡ header_said c → ⊥ ] }
+    ensures { elim result [ Some h ↦ header_of line.now ≡ header_said (counts_of h) | None ↦ (c : Counts) → Counted c → header_of line.now ≢ header_said c ] }
 {
     let grades = count(line.grades, 1, MAX_GRADES)?;
     let rows = count(line.rows, 1, MAX_ROWS)?;
@@ -41,14 +39,11 @@ fn header_of(line: &HeaderLine) -> Option<Header>
 
 /// The first line, and the place after it.
 pub(crate) fn read_header(sheet: &[u8]) -> Result<(Header, usize), TextFault>
-    ensures read { elim result [ Ok p ↦ HeaderRead sheet.now p.0.grades p.0.rows p.0.arcs p.0.total p.0.numerator p.0.denominator p.0.fineness (if p.0.figured then p.0.grades else 0) p.1 | Err e ↦ FaultIn 1 1 e ] }
-    ensures fault { elim result [ Ok _ ↦ Unit {0} | Err e ↦ HeaderFault sheet.now e ] }
+    ensures { elim result [ Ok p ↦ HeaderTaken sheet.now (counts_of p.0) (drop p.1 sheet.now) × (p.1 ≤ length sheet.now) | Err e ↦ HeaderFault sheet.now e ] }
 {
-    let Some((line, next)) = header_at(sheet, 0) else {
+    let Ok((Line::Header(line), next)) = line_at(sheet, 0) else {
         return Err(TextFault::Form { line: 1 });
     };
-    match header_of(&line) {
-        Some(header) => Ok((header, next)),
-        None => Err(TextFault::Range { line: 1 }),
-    }
+    let header = header_of(&line).ok_or(TextFault::Range { line: 1 })?;
+    Ok((header, next))
 }

@@ -8,7 +8,7 @@ pub struct Span {
 }
 
 /// Where the labels lie in the sheet that was read, the first grade's and the first row's first. What lies beyond the
-/// table's grades and rows is empty.
+/// table's grades and rows is empty. Arrays of the stated limits, since the library does not allocate.
 #[derive(Clone, Copy)]
 pub struct Labels {
     pub grade: [Span; MAX_GRADES],

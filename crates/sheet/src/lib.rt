@@ -4,9 +4,9 @@
 mod arc_reading;
 mod figure_reading;
 mod grade_reading;
+mod group;
 mod header;
 mod header_reading;
-mod kind_reading;
 mod labels;
 mod page_writing;
 mod ranges;

@@ -18,6 +18,6 @@ pub fn write_page(
     ensures kept { Kept old.now page.now.sound.table (shown_of figured page.now.figures) result out.new }
     ensures back { Back old.now page.now.sound.table (shown_of figured page.now.figures) result out.new }
 {
-    let figures = if figured { Some(page.figures) } else { None };
-    write(out, &page.sound.table, &figures, old)
+    // What is kept and what reads back are laws of what `write` promises.
+    write(out, page, figured, old)
 }

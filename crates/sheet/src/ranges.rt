@@ -1,20 +1,21 @@
-ghost use Rattle.std.specs.Prelude.{◌≡◌, ◌^◌, ◌≤◌, true, false, T, unsigned_abs};
+ghost use Rattle.std.specs.Prelude.{◌≡◌, ◌≤◌, Some, None, unsigned_abs};
 ghost use Rattle.sheet.specs.Read.{CountOf};
 
 /// `z` as a count from `low` to `high`, where it is one.
 pub(crate) fn count(z: i64, low: usize, high: usize) -> Option<usize>
     ensures { CountOf z low high result }
 {
-    if z < 0 {
-        return None;
-    }
-    let n = z as usize;
-    if low <= n && n <= high { Some(n) } else { None }
+    usize::try_from(z).ok().filter(|n| (low..=high).contains(n))
 }
 
-/// Whether `z` lies at most `most` from 0, on either side.
-pub(crate) fn near(z: i64, most: i64) -> bool
-    ensures { (T result → unsigned_abs z ≤ unsigned_abs most) × (result ≡ false → unsigned_abs z ≤ unsigned_abs most → ⊥) }
+/// A cost of those two parts, where each lies at most `most` from 0, on either side.
+pub(crate) fn cost(first: i64, second: i64, most: i64) -> Option<(i64, i64)>
+    ensures { elim result [ Some c ↦ (c ≡ (first, second)) × (unsigned_abs first ≤ unsigned_abs most) × (unsigned_abs second ≤ unsigned_abs most) | None ↦ unsigned_abs first ≤ unsigned_abs most → unsigned_abs second ≤ unsigned_abs most → ⊥ ] }
 {
-    z.unsigned_abs() <= most.unsigned_abs()
+    let near = |z: i64| z.unsigned_abs() <= most.unsigned_abs();
+    if near(first) && near(second) {
+        Some((first, second))
+    } else {
+        None
+    }
 }

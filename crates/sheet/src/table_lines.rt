@@ -1,7 +1,7 @@
 //! The lines that say what a table, its figures and its labels say.
 
-ghost use Rattle.std.specs.Prelude.{◌≡◌, ◌<◌, ◌≤◌, length, slice_index};
-ghost use Rattle.lines.specs.Lines.{entry_of, end};
+ghost use Rattle.std.specs.Prelude.{◌≡◌, ◌<◌, ◌≤◌, length, slice_index, cond};
+ghost use Rattle.lines.specs.Lines.{entry_of};
 ghost use Rattle.sheet.specs.Render.{part_of, header_entry, grade_entry, row_entry, arc_entry, figure_entry};
 ghost use Rattle.sheet.specs.Spans.{SpanIn};
 
@@ -27,10 +27,10 @@ pub(crate) fn header_line(table: &Table, figures: usize) -> Line<'static>
         grades: table.grades as i64,
         rows: table.rows as i64,
         arcs: table.arcs as i64,
-        total: table.total as i64,
-        numerator: table.numerator as i64,
-        denominator: table.denominator as i64,
-        fineness: table.fineness as i64,
+        total: i64::from(table.total),
+        numerator: i64::from(table.numerator),
+        denominator: i64::from(table.denominator),
+        fineness: i64::from(table.fineness),
         figures: figures as i64,
     })
 }
@@ -73,7 +73,7 @@ pub(crate) fn arc_line(table: &Table, i: usize) -> Line<'static>
         number: (i + 1) as i64,
         next: arc.next as i64,
         destination: arc.destination as i64,
-        weight: arc.weight as i64,
+        weight: i64::from(arc.weight),
     })
 }
 
@@ -94,9 +94,9 @@ pub(crate) fn figure_line(figures: &Figures, i: usize) -> Line<'static>
     })
 }
 
-/// The last line.
-pub(crate) fn end_line() -> Line<'static>
-    ensures { entry_of result ≡ end }
+/// How many figure lines there are, one for each grade or none.
+pub(crate) fn figure_count(figured: bool, grades: usize) -> usize
+    ensures { result ≡ cond figured grades 0 }
 {
-    Line::End
+    if figured { grades } else { 0 }
 }

@@ -1,50 +1,68 @@
--- Labels at the front of bytes.
-use Rattle.std.proofs.Common.{◌≡◌, ℕ, ◌+◌, ◌<◌, ◌≤◌, List, [], ◌∷◌, ◌++◌, length, get_or, take, drop, Some, sym, refl, ap, ◌∙◌, subst, append_assoc, arith}
+-- Bytes of a kind, up to the byte that ends them.
+use Rattle.std.proofs.Common.{◌≡◌, ℕ, suc, ◌+◌, ◌-◌, ◌<◌, ◌≤◌, List, [], ◌∷◌, ◌++◌, length, get_or, take, drop, Some, None, sym, refl, ap, ◌∙◌, subst, append_assoc, arith}
 use Rattle.std.specs.Int.{IsInRange}
-use Rattle.std.proofs.lemmas.List.{length-append, length_push, length-take-le, get_or_at, get_or-take, take_at, drop_at, take-append-drop, drop_more}
+use Rattle.std.proofs.lemmas.List.{length-take-le, length-drop, get_or-take, get_or-drop, take-append-drop}
+use Rattle.std.proofs.lemmas.Slice.{first_rest}
 use Rattle.text.specs.Reading.{Reads, Alone}
-use Rattle.text.specs.Fields.{Run, Label, label_text}
-use Rattle.text.proofs.Reading.{returned}
-use Rattle.text.proofs.Numbers.{run_is, run_of}
+use Rattle.text.specs.Fields.{Filled, ended, Label, label_text}
+use Rattle.text.proofs.Reading.{refused, returned}
 
--- what bytes that begin with a label have
-pub record LabelMet (bs : List ℕ) (n : ℕ) (ls rest : List ℕ) : Type 0 where
-  pub some : 0 < n
-  pub most : n ≤ 24
-  pub inside : n < length bs
-  pub stop : get_or bs n 0 ≡ 10
-  pub is : ls ≡ take n bs
-  pub after : rest ≡ drop (n + 1) bs
+-- two texts that end at their first byte out of range end at the same one
+pub cut_once : (low high : ℕ) (xs ys : List ℕ) (a b : ℕ) (us vs : List ℕ) → ((k : ℕ) → k < length xs → IsInRange low high (get_or xs k 0)) → ((k : ℕ) → k < length ys → IsInRange low high (get_or ys k 0)) → (IsInRange low high a → ⊥) → (IsInRange low high b → ⊥) → xs ++ a ∷ us ≡ ys ++ b ∷ vs → (xs ≡ ys) × (a ≡ b) × (us ≡ vs)
+cut_once low high [] [] a b us vs p q out out' e = (refl, ap (λ l. get_or l 0 0) e, ap (drop 1) e)
+cut_once low high [] (y ∷ ys) a b us vs p q out out' e = absurd (out (subst (IsInRange low high) (sym (ap (λ l. get_or l 0 0) e)) (q 0 (omega arith))))
+cut_once low high (x ∷ xs) [] a b us vs p q out out' e = absurd (out' (subst (IsInRange low high) (ap (λ l. get_or l 0 0) e) (p 0 (omega arith))))
+cut_once low high (x ∷ xs) (y ∷ ys) a b us vs p q out out' e =
+    let first : x ≡ y = ap (λ l. get_or l 0 0) e in
+    let rest = cut_once low high xs ys a b us vs (λ k lt. p (suc k) (omega arith)) (λ k lt. q (suc k) (omega arith)) out out' (ap (drop 1) e) in
+    ((λ i. first i ∷ rest.0 i), rest.1, rest.2)
 
-module _ {bs : List ℕ} {n : ℕ} (run : Run 33 126 bs n) where
-  pub label_met : (ls rest : List ℕ) → Label ls → bs ≡ label_text ls ++ rest → LabelMet bs n ls rest
-  label_met ls rest good e =
-      let cut = e ∙ append_assoc ls (10 ∷ []) rest in
-      let len = run_is run ls 10 rest cut good.all (λ i. omega arith) in
-      let long = ap length cut ∙ length-append ls (10 ∷ rest) in
-      record {
-        some = omega (arith, good.some);
-        most = omega (arith, good.most);
-        inside = omega arith;
-        stop = ap (λ l. get_or l n 0) cut ∙ get_or_at ls 10 rest 0 n (sym len);
-        is = sym (ap (take n) cut ∙ take_at ls (10 ∷ rest) n (sym len));
-        after = sym (ap (drop (n + 1)) e ∙ drop_at (label_text ls) rest (n + 1) (length_push ls 10 ∙ ap (λ k. k + 1) (sym len)));
-      }
+module _ (low high limit end : ℕ) (out : IsInRange low high end → ⊥) where
+  -- the text of such bytes is the front of no other's
+  pub filled_alone : Alone (Filled low high limit) (ended end)
+  filled_alone a b x y g h same =
+      let cut = cut_once low high a b end end x y g.all h.all out out (sym (append_assoc a (end ∷ []) x) ∙ same ∙ append_assoc b (end ∷ []) y) in
+      (cut.0, cut.2)
 
-  pub label_found : 0 < n → n ≤ 24 → n < length bs → get_or bs n 0 ≡ 10 → (ls rest : List ℕ) → ls ≡ take n bs → rest ≡ drop (n + 1) bs → Reads Label label_text bs (Some (ls, rest))
-  label_found some most inside stop ls rest ls-is rest-is =
-      rw (ls-is, rest-is)
-      (let long = length-take-le n bs run.within in
-      returned (take n bs) (drop (n + 1) bs)
-      (record { some = omega arith; most = omega arith; all = λ k lt. let less : k < n = omega arith in subst (IsInRange 33 126) (sym (get_or-take n bs k 0 less)) (run.all k less) })
-      (sym (take-append-drop n bs) ∙ ap (λ l. take n bs ++ l) (drop_more bs n 0 inside ∙ ap (λ b. b ∷ drop (n + 1) bs) stop) ∙ sym (append_assoc (take n bs) (10 ∷ []) (drop (n + 1) bs)))
-      (λ m more s e. let h = label_met m more s e in (h.is, h.after)))
+  -- the bytes before the first one out of range, that one, and what follows it
+  module _ (bs : List ℕ) (n : ℕ) (inside : n < length bs) (all : (k : ℕ) → k < n → IsInRange low high (get_or bs k 0)) (front back : List ℕ) (front-is : front ≡ take n bs) (back-is : back ≡ drop n bs) where
+    stop : ℕ
+    stop = get_or back 0 0
+
+    rest : List ℕ
+    rest = take (length back - 1) (drop 1 back)
+
+    long : length front ≡ n
+    long = ap length front-is ∙ length-take-le n bs (omega arith)
+
+    cut : bs ≡ front ++ stop ∷ rest
+    unfolding stop rest
+    cut =
+        let some : 0 < length back = omega (arith, ap length back-is, length-drop n bs) in
+        sym (take-append-drop n bs) ∙ (λ i. sym front-is i ++ sym back-is i) ∙ ap (λ l. front ++ l) (first_rest back 0 some)
+
+    each : (k : ℕ) → k < length front → IsInRange low high (get_or front k 0)
+    each k lt =
+        let less : k < n = omega (arith, long) in
+        subst (IsInRange low high) (sym (ap (λ l. get_or l k 0) front-is ∙ get_or-take n bs k 0 less)) (all k less)
+
+    pub run_some : 0 < n → n ≤ limit → get_or back 0 0 ≡ end → Reads (Filled low high limit) (ended end) bs (Some (front, take (length back - 1) (drop 1 back)))
+    unfolding stop rest
+    run_some some most last =
+        let good : Filled low high limit front = record { some = omega (arith, long); most = omega (arith, long); all = each } in
+        let text : bs ≡ ended end front ++ rest = cut ∙ ap (λ b. front ++ b ∷ rest) last ∙ sym (append_assoc front (end ∷ []) rest) in
+        returned front rest good text (λ xs more g e. filled_alone xs front more rest g good (sym e ∙ text))
+
+    pub run_other : (low ≤ get_or bs n 0 → high < get_or bs n 0) → (0 < n → n ≤ limit → get_or back 0 0 ≡ end → ⊥) → Reads (Filled low high limit) (ended end) bs None
+    unfolding stop rest
+    run_other stops other =
+        let same : n + 0 ≡ n = omega arith in
+        let here : get_or bs n 0 ≡ stop = sym (ap (λ l. get_or l 0 0) back-is ∙ get_or-drop n bs 0 0 ∙ ap (λ k. get_or bs k 0) same) in
+        let outside : IsInRange low high stop → ⊥ = λ i. omega (arith, stops (omega arith)) in
+        refused (λ xs more g e.
+        let same = cut_once low high front xs stop end rest more each g.all outside out (sym cut ∙ e ∙ append_assoc xs (end ∷ []) more) in
+        other (omega (arith, long, ap length same.0, g.some)) (omega (arith, long, ap length same.0, g.most)) same.1)
 
 -- the text of a label is the front of no other's
 pub label_alone : Alone Label label_text
-label_alone a b x y g h same =
-    let cut = append_assoc a (10 ∷ []) x in
-    let run = subst (λ l. Run 33 126 l (length a)) (sym cut) (run_of 33 126 a 10 x g.all (λ i. omega arith)) in
-    let p = label_met run a x g refl in
-    let q = label_met run b y h same in
-    (p.is ∙ sym q.is, p.after ∙ sym q.after)
+label_alone = filled_alone 33 126 24 10 (λ i. omega arith)

@@ -1,4 +1,4 @@
 pub mod Reading
-pub mod Numbers
 pub mod Labels
+pub mod Numbers
 pub mod Writing

@@ -1,10 +1,6 @@
 -- One write after another.
-use Rattle.std.proofs.Common.{◌≡◌, ℕ, ◌+◌, ◌/◌, ◌%◌, ◌^◌, ◌<◌, ◌≤◌, true, List, [], ◌∷◌, ◌++◌, length, get_or, take, drop, set, ℤ, pos, negsuc, nat_abs, Some, None, decimal, Option, sym, refl, ap, ◌∙◌, append_assoc, arith}
-use lib.Signed.{lt_z}
-use Rattle.std.proofs.lemmas.Bool.{ltb-true}
-use Rattle.std.specs.Fmt.{signed_decimal}
-use Rattle.std.proofs.lemmas.Fmt.{decimal_digit, decimal_step}
-use Rattle.std.proofs.lemmas.List.{length-append, length_push, length-take-le, length-drop, take-append-drop, take_at, take-take, drop_at, drop-drop, drop_more, set_at}
+use Rattle.std.proofs.Common.{◌≡◌, ℕ, ◌+◌, ◌≤◌, List, ◌++◌, length, take, drop, ℤ, Some, None, Option, sym, ap, ◌∙◌, append_assoc, arith}
+use Rattle.std.proofs.lemmas.List.{length-append, length-take-le, length-drop, take_at, take-take, drop_at, drop-drop}
 use Rattle.text.specs.Fields.{number_text}
 use Rattle.text.specs.Writing.{put, Writes, ReadsBack}
 
@@ -33,11 +29,6 @@ module _ (xs : List ℕ) (at : ℕ) (ys : List ℕ) (room : at + length ys ≤ l
       let long : n + length zs ≡ at + length (ys ++ zs) = omega (arith, length-append ys zs) in
       (λ i. front i ++ (zs ++ rest i)) ∙ append_assoc (take at xs) ys (zs ++ drop (n + length zs) xs) ∙ ap (λ l. take at xs ++ l) (sym (append_assoc ys zs (drop (n + length zs) xs)) ∙ ap (λ k. (ys ++ zs) ++ drop k xs) long)
 
--- a byte at the place after ys
-pub set_put : (xs : List ℕ) (at b : ℕ) → at < length xs → set xs at b ≡ put xs at (b ∷ [])
-set_put xs at b lt =
-    ap (λ l. set l at b) (sym (take-append-drop at xs) ∙ ap (λ l. take at xs ++ l) (drop_more xs at 0 lt)) ∙ set_at (take at xs) (get_or xs at 0) (drop (at + 1) xs) b at (length-take-le at xs (omega arith))
-
 pub writes_then : (xs : List ℕ) (at : ℕ) (a ys : List ℕ) (j : ℕ) → Writes xs at a (Some j) ys → (b : List ℕ) (r : Option ℕ) (zs : List ℕ) → Writes ys j b r zs → Writes xs at (a ++ b) r zs
 writes_then xs at a ys j w b (Some k) zs v =
     let room : at + length a ≤ length xs = omega arith in
@@ -54,43 +45,6 @@ writes_then xs at a ys j w b None zs v =
 
 pub writes_none : (xs : List ℕ) (at : ℕ) (a ys b : List ℕ) → Writes xs at a None ys → Writes xs at (a ++ b) None ys
 writes_none xs at a ys b w = (omega (arith, length-append a b), w.1, w.2)
-
--- what `put_natural` has before its last digit
-pub record Step (xs : List ℕ) (at n next : ℕ) (ys : List ℕ) : Type 0 where
-  pub front : List ℕ
-  pub is : decimal n ≡ front ++ (48 + n % 10) ∷ []
-  pub next_is : next ≡ at + length front
-  pub ys_is : ys ≡ put xs at front
-
-pub step_one : (xs : List ℕ) (at n next : ℕ) (ys : List ℕ) → n < 10 → next ≡ at → ys ≡ xs → Step xs at n next ys
-step_one xs at n next ys small p q =
-    let same : n ≡ n % 10 = omega arith in
-    let none : at ≡ at + 0 = omega arith in
-    record {
-      front = [];
-      is = decimal_digit n small ∙ ap (λ k. (48 + k) ∷ []) same;
-      next_is = p ∙ none;
-      ys_is = q ∙ sym (take-append-drop at xs) ∙ ap (λ k. take at xs ++ drop k xs) none;
-    }
-
-pub step_more : (xs : List ℕ) (at n next : ℕ) (ys : List ℕ) → 10 ≤ n → n < 2 ^ 64 → next ≡ at + length (decimal (n / 10)) → ys ≡ put xs at (decimal (n / 10)) → Step xs at n next ys
-step_more xs at n next ys big fits p q = record { front = decimal (n / 10); is = decimal_step n big fits; next_is = p; ys_is = q }
-
-pub step_ends : (xs : List ℕ) (at n next : ℕ) (ys : List ℕ) → Step xs at n next ys → at + length (decimal n) ≤ length xs → (next + 1 ≡ at + length (decimal n)) × (next < length ys) × (set ys next (48 + n % 10) ≡ put xs at (decimal n))
-step_ends xs at n next ys s room =
-    let b = 48 + n % 10 in
-    let long = ap length s.is ∙ length_push s.front b in
-    let less : at + length s.front ≤ length xs = omega arith in
-    let same = ap length s.ys_is ∙ length_put xs at s.front less in
-    let inside : next < length ys = omega (arith, s.next_is) in (
-      omega (arith, s.next_is),
-      inside,
-      set_put ys next b inside ∙ (λ i. put (s.ys_is i) (s.next_is i) (b ∷ [])) ∙ put_put xs at s.front less (b ∷ []) ∙ ap (put xs at) (sym s.is),
-    )
-
-pub negative : (z : ℤ) → lt_z z (pos 0) ≡ true → signed_decimal z ≡ 45 ∷ decimal (nat_abs z)
-negative (pos n) h = absurd (omega (arith, ltb-true n 0 h))
-negative (negsuc n) h = refl
 
 -- what was written is read back
 pub reads_back : (xs : List ℕ) (at e : ℕ) (z : ℤ) (r : Option ℕ) (zs : List ℕ) → Writes xs at (number_text e z) r zs → ReadsBack xs at e z r zs

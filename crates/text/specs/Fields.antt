@@ -14,11 +14,15 @@ byte_of field.Line = 10
 abbrev pub Ends : ℕ → Type 0
 Ends b = b < 33
 
--- the first n bytes lie from low to high, and the next one does not
-pub record Run (low high : ℕ) (bs : List ℕ) (n : ℕ) : Type 0 where
-  pub within : n ≤ length bs
-  pub all : (k : ℕ) → k < n → IsInRange low high (slice_index bs k)
-  pub stops : n < length bs → IsInRange low high (slice_index bs n) → ⊥
+-- 1 to limit bytes, each from low to high
+pub record Filled (low high limit : ℕ) (bs : List ℕ) : Type 0 where
+  pub some : 0 < length bs
+  pub most : length bs ≤ limit
+  pub all : (k : ℕ) → k < length bs → IsInRange low high (slice_index bs k)
+
+-- bytes, and the one that ends them
+abbrev pub ended : ℕ → List ℕ → List ℕ
+ended end bs = bs ++ end ∷ []
 
 -- a natural number of at most eleven digits
 abbrev pub Short : ℕ → Type 0
@@ -37,10 +41,8 @@ abbrev pub number_text : ℕ → ℤ → List ℕ
 number_text end z = signed_decimal z ++ end ∷ []
 
 -- 1 to 24 bytes from 33 to 126
-pub record Label (bs : List ℕ) : Type 0 where
-  pub some : 0 < length bs
-  pub most : length bs ≤ 24
-  pub all : (k : ℕ) → k < length bs → IsInRange 33 126 (slice_index bs k)
+abbrev pub Label : List ℕ → Type 0
+Label = Filled 33 126 24
 
 -- a label, and the line's end
 abbrev pub label_text : List ℕ → List ℕ

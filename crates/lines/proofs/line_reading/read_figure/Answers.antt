@@ -1,16 +1,9 @@
 -- Each way out by one field more: what was read so far, and then the field that was not there, or the whole.
 use Rattle.std.proofs.Common.{Some, None, w64, SFits, rules}
 use Rattle.std.proofs.lemmas.Int.{to_z-of_z}
-use Rattle.text.specs.Reading.{both, Each}
-use Rattle.text.specs.Fields.{Small}
 use Rattle.text.proofs.Reading.{first_none, first_then}
-use Rattle.lines.specs.Lines.{blank, four_text, GoodFour}
+use Rattle.lines.specs.Lines.{four_text, GoodFour}
 use Rattle.lines.proofs.line_reading.read_figure.Goals as goal
-
-pub returns-in_err-grade : goal.returns-in_err-grade
-returns-in_err-grade c =
-    rw c.from_residual.ensures
-    (first_none (Each Small GoodFour) (both blank (four_text 10)) c.in_err-grade.ensures)
 
 pub returns-in_err-row : goal.returns-in_err-row
 returns-in_err-row c =

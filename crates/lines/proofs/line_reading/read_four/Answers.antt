@@ -1,29 +1,8 @@
 -- Each way out by one field more: what was read so far, and then the field that was not there, or the whole.
 use Rattle.std.proofs.Common.{Some, None, w64, SFits, rules}
 use Rattle.std.proofs.lemmas.Int.{to_z-of_z}
-use Rattle.text.specs.Reading.{both, Each}
-use Rattle.text.specs.Fields.{byte_of, Small, number_text}
-use Rattle.text.proofs.Reading.{first_none, first_then}
-use Rattle.lines.specs.Lines.{blank}
+use Rattle.text.proofs.Reading.{first_then}
 use Rattle.lines.proofs.line_reading.read_four.Goals as goal
-
-pub returns-in_err-first : goal.returns-in_err-first
-returns-in_err-first c =
-    rw c.from_residual.ensures
-    (first_none (Each Small (Each Small Small)) (both blank (both blank (number_text (byte_of c.args.end)))) c.in_err-first.ensures)
-
-pub returns-in_err-second : goal.returns-in_err-second
-returns-in_err-second c =
-    rw c.from_residual-in_err-second.ensures
-    (first_then c.in_ok-first.first c.in_ok-first.rest.now c.in_ok-first.ensures None
-    (first_none (Each Small Small) (both blank (number_text (byte_of c.args.end))) c.in_err-second.ensures))
-
-pub returns-in_err-third : goal.returns-in_err-third
-returns-in_err-third c =
-    rw c.from_residual-in_err-third.ensures
-    (first_then c.in_ok-first.first c.in_ok-first.rest.now c.in_ok-first.ensures None
-    (first_then c.in_ok-second.second c.in_ok-second.rest.now c.in_ok-second.ensures None
-    (first_none Small (number_text (byte_of c.args.end)) c.in_err-third.ensures)))
 
 pub returns-in_err-fourth : goal.returns-in_err-fourth
 returns-in_err-fourth c =

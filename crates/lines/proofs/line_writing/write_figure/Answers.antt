@@ -5,12 +5,6 @@ use Rattle.text.proofs.Writing.{writes_then, writes_none}
 use Rattle.lines.specs.Lines.{blank, four_text}
 use Rattle.lines.proofs.line_writing.write_figure.Goals as goal
 
-pub returns-in_err-at : goal.returns-in_err-at
-returns-in_err-at c =
-    let f0 : SFits w64 c.args.line.now.grade = search rules in
-    rw c.from_residual.ensures
-    (writes_none c.args.out.now c.args.at (blank c.args.line.now.grade) c.write_field.new.out ((blank c.args.line.now.row) ++ (four_text 10 (c.args.line.now.floor_first, (c.args.line.now.floor_second, (c.args.line.now.ceiling_first, c.args.line.now.ceiling_second))))) (simp to_z-of_z at c.in_err-at.ensures.text))
-
 pub returns-in_err-at-2 : goal.returns-in_err-at-2
 returns-in_err-at-2 c =
     let f0 : SFits w64 c.args.line.now.grade = search rules in

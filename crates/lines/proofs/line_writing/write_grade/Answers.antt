@@ -6,12 +6,6 @@ use Rattle.text.proofs.Writing.{writes_then, writes_none}
 use Rattle.lines.specs.Lines.{blank}
 use Rattle.lines.proofs.line_writing.write_grade.Goals as goal
 
-pub returns-in_err-at : goal.returns-in_err-at
-returns-in_err-at c =
-    let f0 : SFits w64 c.args.line.now.number = search rules in
-    rw c.from_residual.ensures
-    (writes_none c.args.out.now c.args.at (blank c.args.line.now.number) c.write_field.new.out ((blank c.args.line.now.first_row) ++ (label_text c.args.line.now.label.now)) (simp to_z-of_z at c.in_err-at.ensures.text))
-
 pub returns-in_err-at-2 : goal.returns-in_err-at-2
 returns-in_err-at-2 c =
     let f0 : SFits w64 c.args.line.now.number = search rules in

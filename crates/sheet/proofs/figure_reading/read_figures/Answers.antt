@@ -1,34 +1,54 @@
-use Rattle.std.proofs.Common.{◌≡◌, ◌<◌, true, cond, drop, sym, subst, arith, length-set, rules}
+use Rattle.std.proofs.Common.{◌≡◌, ℕ, ◌<◌, cond, get_or, drop, pos, ap, subst, arith, rules}
+use Rattle.sheet.specs.Due.{figure, group}
 use Rattle.sheet.specs.Halts.{counts_of}
-use Rattle.sheet.proofs.FigureSteps.{figures_none, figures_more}
-use Rattle.sheet.proofs.Halting.{err_is, counted, figures_through}
+use Rattle.sheet.specs.Read.{GroupRead, figure0, figure_said}
+use Rattle.sheet.specs.Refused.{Through}
+use Rattle.sheet.proofs.GroupSteps.{group_through}
+use Rattle.sheet.proofs.Kept.{plans_in, floors_in, ceilings_in, figures_told}
 use Rattle.sheet.proofs.figure_reading.read_figures.Goals as goal
+use Rattle.sheet.proofs.figure_reading.read_figures.Goals.{After-map, After-map-2, After-map-3}
 
-pub loop-i-init : goal.loop-i-init
-loop-i-init c = (search rules, search rules, search rules, figures_none c.args.sheet.now c.args.at c.args.header.now.rows _ c.requires)
+-- each part of the figures that were kept
+rows_are : (c : After-map) (i : ℕ) → i < 32 → get_or c.map.result i 0 ≡ (get_or c.in_ok-kept.kept i figure0).row
+rows_are c i lt = let h = c.map.ensures.items.at i figure0 0 lt in search rules
 
-pub loop-i-preserved : goal.loop-i-preserved
-loop-i-preserved c =
-    let inv = c.loop-i.invariant in
-    let read = c.in_ok-figure in
-    let f = read.figure in (
-      simp length-set inv.0,
-      simp length-set inv.1,
-      simp length-set inv.2,
-      figures_more c.args.sheet.now c.args.at c.loop-i.at c.loop-i.i c.args.header.now.rows c.loop-i.row c.loop-i.floor c.loop-i.ceiling f.row f.floor f.ceiling read.next (omega arith) (omega arith) (omega arith) inv.3 read.ensures.read,
-    )
+floors_are : (c : After-map-2) (i : ℕ) → i < 32 → get_or c.map-2.result i (pos 0, pos 0) ≡ (get_or c.in_ok-kept.kept i figure0).floor
+floors_are c i lt = let h = c.map-2.ensures.items.at i figure0 (pos 0, pos 0) lt in search rules
 
-pub returns-in_err-figure-clause-fault : goal.returns-in_err-figure-clause-fault
-returns-in_err-figure-clause-fault c =
+ceilings_are : (c : After-map-3) (i : ℕ) → i < 32 → get_or c.map-3.result i (pos 0, pos 0) ≡ (get_or c.in_ok-kept.kept i figure0).ceiling
+ceilings_are c i lt = let h = c.map-3.ensures.items.at i figure0 (pos 0, pos 0) lt in search rules
+
+pub invariant_of-figures : goal.invariant_of-figures
+invariant_of-figures c =
+    record { within = floors_in _ _ _ _ _ _ c.in_ok-kept.kept c.in_ok-kept.ensures c.map-2.result (floors_are (goal.at.invariant_of-figures c).After-map-2); long = c.map-2.ensures.items.long }
+
+pub invariant_of-figures-2 : goal.invariant_of-figures-2
+invariant_of-figures-2 c =
+    record { within = ceilings_in _ _ _ _ _ _ c.in_ok-kept.kept c.in_ok-kept.ensures c.map-3.result (ceilings_are (goal.at.invariant_of-figures-2 c).After-map-3); long = c.map-3.ensures.items.long }
+
+pub returns-then-not-header : goal.returns-then-not-header
+returns-then-not-header c =
+    let k = counts_of c.args.header.now in
     let sheet = c.args.sheet.now in
+    let next = c.in_ok-kept.at in
+    let none : k.figures ≡ 0 = ap (λ b. cond b c.args.header.now.grades 0) c.if-not-header.true in
+    let through = group_through k figure figure_said sheet figure0 _ _ _ _ _ c.in_ok-kept.ensures in
+    record { planned = tt; counted = none; ends = c.in_ok-kept.ensures.ends; text = subst (λ n. Through k (group figure n) (drop c.args.at sheet) (drop next sheet)) none through; through = through }
+
+pub returns : goal.returns
+returns c =
+    let at = goal.at.returns c in
     let h = c.args.header.now in
-    let i = c.loop-i.i in
-    let yes : h.figured ≡ true = search rules in
-    rw (err_is _ _ c.from_residual.ensures.1)
-    (record {
-      i = i;
-      below = subst (λ b. i < cond b h.grades 0) (sym yes) (omega arith);
-      rest = drop c.loop-i.at sheet;
-      through = figures_through (counts_of h) (counted h) sheet c.args.at i c.loop-i.at c.loop-i.row c.loop-i.floor c.loop-i.ceiling (omega arith) c.loop-i.invariant.3;
-      faulty = c.in_err-figure.ensures.fault;
-    })
+    let k = counts_of h in
+    let sheet = c.args.sheet.now in
+    let xs = c.in_ok-kept.kept in
+    let next = c.in_ok-kept.at in
+    let all : k.figures ≡ h.grades = ap (λ b. cond b h.grades 0) c.if-not-header.false in
+    let read = subst (λ n. GroupRead k figure figure_said sheet c.args.at n figure0 xs c.in_ok-kept.field-0-1 next) all c.in_ok-kept.ensures in
+    record {
+      planned = plans_in _ _ _ _ _ _ xs read c.map.result (rows_are at.After-map) (omega arith);
+      counted = all;
+      ends = read.ends;
+      text = figures_told _ _ _ _ _ _ xs read c.map.result c.map-2.result c.map-3.result (rows_are at.After-map) (floors_are at.After-map-2) (ceilings_are at.After-map-3) (omega arith);
+      through = group_through k figure figure_said sheet figure0 _ _ _ _ _ c.in_ok-kept.ensures;
+    }

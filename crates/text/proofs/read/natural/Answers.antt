@@ -1,38 +1,52 @@
-use Rattle.std.proofs.Common.{◌≡◌, ◌+◌, ◌-◌, ◌≤◌, length, take, drop, sym, ap, ◌∙◌, subst, ⊎_elim, arith}
-use Rattle.std.specs.Str.Parse.{digits_value, AllDigits}
-use Rattle.std.proofs.lemmas.List.{length-take-le, take_rest}
-use Rattle.text.proofs.Reading.{refused}
-use Rattle.text.proofs.Numbers.{ends, met, found, run_numeral}
+use Rattle.std.proofs.Common.{rules, ◌≡◌, subst, ◌∙◌, sym, ap, refl, Some, None, Ok, Err, Result, MatchResult}
+use Rattle.std.specs.Str.Parse.{digits_value}
+use Rattle.std.specs.Result.{result_ok}
+use Rattle.text.proofs.Reading.{not_some}
+use Rattle.text.specs.Reading.{Reads}
+use Rattle.text.specs.Fields.{byte_of, Short, natural_text}
+use Rattle.text.proofs.Numbers.{natural_none, natural_zero, natural_some, digits_utf8, parsed}
 use Rattle.text.proofs.read.natural.Goals as goal
-use Rattle.text.proofs.read.natural.Goals.{else-n-gt1-via-then-n-gt1+else-bytes-eq48, else-n-gt1-via-else-n-gt1}
+use Rattle.text.proofs.read.natural.Goals.{then-digits-lt2, else-digits-lt2+in_default-1}
 
-pub returns-then-not-digits_fit : goal.returns-then-not-digits_fit
-returns-then-not-digits_fit c =
-    refused (λ m rest s e. let h = met c.run-n.ensures (ends c.args.end) m rest s e in ⊎_elim (λ none. omega arith) (λ more. omega arith) c.if-not-digits_fit.ensures)
+-- what `ok` says of a result
+no_fault : {T E : Type 0} (A : T → Type 0) (B : E → Type 0) (Q : Type 0) (r : Result T E) → None ≡ result_ok r → MatchResult r A (λ e. ¬ Q × B e) → Q → ⊥
+no_fault A B Q (Ok t) is m q = not_some is
+no_fault A B Q (Err e) is m q = m.0 q
 
-pub returns-then-bytes-eq48 : goal.returns-then-bytes-eq48
-returns-then-bytes-eq48 c = refused (λ m rest s e. let h = met c.run-n.ensures (ends c.args.end) m rest s e in h.front (omega arith) (omega arith))
+kept : {T E : Type 0} (A : T → Type 0) (B : E → Type 0) (r : Result T E) (t : T) → Some t ≡ result_ok r → MatchResult r A B → A t
+kept A B (Ok u) t is m = let same : u ≡ t = cc in subst A same m
+kept A B (Err e) t is m = absurd (not_some (sym is))
 
-pub returns-then-n-bytes : goal.returns-then-n-bytes
-returns-then-n-bytes c = refused (λ m rest s e. let h = met c.run-n.ensures (ends c.args.end) m rest s e in omega arith)
-
-pub returns-then-bytes-n : goal.returns-then-bytes-n
-returns-then-bytes-n c = refused (λ m rest s e. let h = met c.run-n.ensures (ends c.args.end) m rest s e in c.if-bytes-n.true (h.stop ∙ sym c.byte.ensures))
-
-pub value-requires : goal.value-requires
-value-requires c =
+pub returns-in_err-digits : goal.returns-in_err-digits
+returns-in_err-digits c =
     let bs = c.args.bytes.now in
-    let n = c.run-n.result in
-    let same : n ≡ n - 0 = omega arith in
-    subst (λ k. (length (take k bs) ≤ 11) × AllDigits 10 (take k bs)) same
-    (omega (arith, length-take-le n bs c.run-n.ensures.within), run_numeral c.run-n.ensures)
+    rw c.from_residual.ensures (natural_none _ bs (rw c.byte.ensures at c.in_err-digits.ensures))
+
+pub returns-in-48 : goal.returns-in-48
+returns-in-48 c = natural_zero _ c.args.bytes.now _ _ (rw c.byte.ensures at c.in_ok-digits.ensures) (search rules) (search rules)
+
+pub returns-in_err-ok : goal.returns-in_err-ok
+returns-in_err-ok c =
+    let good = (c.in_ok-digits.ensures.was c.in_ok-digits.digits.now c.in_ok-digits.rest.now refl).0 in
+    absurd (no_fault _ _ _ c.from_utf8.result c.in_err-ok.ensures.value c.from_utf8.ensures.cases (digits_utf8 c.in_ok-digits.digits.now good))
+
+pub returns-in_err-n : goal.returns-in_err-n
+returns-in_err-n c =
+    let ds = c.in_ok-digits.digits.now in
+    let good = (c.in_ok-digits.ensures.was ds c.in_ok-digits.rest.now refl).0 in
+    let same = (kept _ _ c.from_utf8.result c.in_ok-ok.field-0 c.in_ok-ok.ensures.value c.from_utf8.ensures.cases).0 in
+    let is = parsed ds c.parse.result good (rw same at c.parse.ensures.value.0) in
+    absurd (not_some (c.in_err-n.ensures.value ∙ ap result_ok is))
 
 pub returns : goal.returns
 returns c =
+    let ds = c.in_ok-digits.digits.now in
+    let us = c.in_ok-digits.rest.now in
     let bs = c.args.bytes.now in
-    let n = c.run-n.result in
-    let same : n - 0 ≡ n = omega arith in
-    found c.run-n.ensures (ends c.args.end) (omega arith) (omega arith)
-    (λ two zero. elim c.else-n-gt1.branch [ else-n-gt1-via-then-n-gt1+else-bytes-eq48 w ↦ w.if-bytes-eq48.false zero | else-n-gt1-via-else-n-gt1 w ↦ omega arith ])
-    (omega (arith, c.run-n.ensures.within)) (c.if-bytes-n.false ∙ c.byte.ensures)
-    c.value.result (take (length bs - (n + 1)) (drop (n + 1) bs)) (c.value.ensures ∙ ap (λ k. digits_value 10 (take k bs)) same) (take_rest bs (n + 1))
+    let good = (c.in_ok-digits.ensures.was ds us refl).0 in
+    let same = (kept _ _ c.from_utf8.result c.in_ok-ok.field-0 c.in_ok-ok.ensures.value c.from_utf8.ensures.cases).0 in
+    let is = parsed ds c.parse.result good (rw same at c.parse.ensures.value.0) in
+    let told : Some c.in_ok-n.n ≡ Some (digits_value 10 ds) = c.in_ok-n.ensures.value ∙ ap result_ok is in
+    let value : digits_value 10 ds ≡ c.in_ok-n.n = cc in
+    let read = natural_some _ bs ds us (rw c.byte.ensures at c.in_ok-digits.ensures) (λ two zero. elim c.if-digits-lt2.branch [ then-digits-lt2 w ↦ search rules | else-digits-lt2+in_default-1 w ↦ search rules ]) in
+    subst (λ n. Reads Short (natural_text (byte_of c.args.end)) bs (Some (n, us))) value read

@@ -1,0 +1,103 @@
+//! The lines of a group: the grades, the rows, the arcs or the figures, one after another.
+
+ghost use Rattle.std.specs.Prelude.{◌≡◌, ℕ, ◌+◌, ◌<◌, ◌≤◌, List, length, drop, Ok, Err};
+ghost use Rattle.lines.specs.Lines.{entry_of};
+ghost use Rattle.lines.specs.Places.{label_of};
+ghost use Rattle.sheet.specs.Due.{Counts, Slot, Said};
+ghost use Rattle.sheet.specs.Halts.{counts_of, LineFault, Halted};
+ghost use Rattle.sheet.specs.Read.{span_of, KeptOf, LineRead, GroupRead};
+
+use crate::header::Header;
+use crate::labels::Span;
+use lines::{Line, TextFault, line_at};
+
+/// A group of lines, numbered from 1.
+pub(crate) trait Group {
+    /// What is kept of a line, its label apart.
+    type Kept: Copy;
+
+    /// What stands for the lines beyond the last.
+    const EMPTY: Self::Kept;
+
+    ghost EMPTY: { Self.Kept };
+
+    // how many lines there are, by the first line of the sheet
+    ghost count: { Counts → ℕ };
+
+    // the line i + 1
+    ghost slot: { ℕ → Slot };
+
+    // what it says, from its label and what is kept
+    ghost said: { List ℕ → (i : ℕ) → Self.Kept → Said (slot i) };
+
+    fn count(header: &Header) -> usize
+        ensures { result ≡ count (counts_of header.now) };
+
+    /// What is kept of `text`, where it is the line `i + 1`, the sheet's line `line`, with each number in range.
+    fn keep(
+        text: &Line<'_>,
+        line: usize,
+        i: usize,
+        header: &Header,
+    ) -> Result<Self::Kept, TextFault>
+        requires { i < 512 }
+        ensures { KeptOf (counts_of header.now) (slot i) (λ x. said (label_of text.now) i x) line (entry_of text.now) result };
+}
+
+/// Where a line's label lies: up to the byte that ends the line, and of no bytes where its kind has none.
+fn label_span(text: &Line<'_>, next: usize) -> Span
+    requires { length (label_of text.now) + 1 ≤ next }
+    ensures { result ≡ span_of text.now next }
+{
+    let label = match text {
+        Line::Grade(grade) => grade.label.len(),
+        Line::Row(row) => row.label.len(),
+        _ => 0,
+    };
+    let end = next - 1;
+    Span {
+        start: end - label,
+        end,
+    }
+}
+
+/// The line `i + 1` of a group, the sheet's line `line`: what is kept of it, where its label lies, and the place after it.
+fn group_line<G: Group>(
+    sheet: &[u8],
+    at: usize,
+    line: usize,
+    i: usize,
+    header: &Header,
+) -> Result<(G::Kept, Span, usize), TextFault>
+    requires { i < 512 }
+    ensures { elim result [ Ok p ↦ LineRead (counts_of header.now) (G.slot i) (λ label. G.said label i p.0) sheet.now at p.1 p.2 | Err e ↦ LineFault (counts_of header.now) (G.slot i) line (drop at sheet.now) e ] }
+{
+    let Ok((text, next)) = line_at(sheet, at) else {
+        return Err(TextFault::Form { line });
+    };
+    let kept = G::keep(&text, line, i, header)?;
+    Ok((kept, label_span(&text, next), next))
+}
+
+/// The lines of a group from the place `at` on, the first of them the sheet's line `line`: what is kept of each, where
+/// their labels lie, and the place after them.
+pub(crate) fn read_group<G: Group, const N: usize>(
+    sheet: &[u8],
+    at: usize,
+    line: usize,
+    header: &Header,
+) -> Result<([G::Kept; N], [Span; N], usize), TextFault>
+    requires place { at ≤ length sheet.now }
+    requires few { (G.count (counts_of header.now) ≤ N) × (N ≤ 512) }
+    requires line { line < 1000 }
+    ensures { elim result [ Ok p ↦ GroupRead (counts_of header.now) G.slot G.said sheet.now at (G.count (counts_of header.now)) G.EMPTY p.0 p.1 p.2 | Err e ↦ Halted (counts_of header.now) G.slot (G.count (counts_of header.now)) line (drop at sheet.now) e ] }
+{
+    let mut kept = [G::EMPTY; N];
+    let mut label = [Span { start: 0, end: 0 }; N];
+    let mut at = at;
+    // Two arrays are filled side by side by the line's number: a zip of both is no plainer.
+    for i in 0..G::count(header) {
+        (kept[i], label[i], at) = group_line::<G>(sheet, at, line + i, i, header)?;
+    }
+    Ok((kept, label, at))
+}
