@@ -10,8 +10,8 @@ use crate::table::Table;
 use crate::walk::Walk;
 
 impl<H: Head, T: Linked> Chains<'_, H, T> {
-    /// The lowest link in no head's chain. The marks start at 0. A chain that turns back on itself is left after as many
-    /// steps as there are links.
+    /// The lowest link in no head's chain. The marks start at 0. A chain that turns back on itself is left after as
+    /// many steps as there are links.
     fn loose<const N: usize>(self, mut marks: [u16; N]) -> Option<usize>
         requires zero { marks ≡ replicate N 0 }
         requires room { length self.links.now ≤ N }
