@@ -51,9 +51,9 @@ label_there sheet at next line.End lt ends text = no_label sheet (next - 1)
 
 module _ {K : Type 0} (c : Counts) (s : Slot) (n : ℕ) where
   -- what a line of the kind that is due says is kept where it is in range
-  pub kept_of : (said : K → Said s) (y : Said s) (r : Option K) (q : Result K TextFault) → RangedOf c s said y r → q ≡ ok_or r (fault.Range n) → KeptOf c s said n (entry s y) q
-  kept_of said y (Some x) q h is = subst (KeptOf c s said n (entry s y)) (sym is) (ap (entry s) h.0, h.1)
-  kept_of said y None q h is = subst (KeptOf c s said n (entry s y)) (sym is) (inr (y, refl, h, refl))
+  pub kept_of : (said : K → Said s) (y : Said s) (r : Option K) (q : Result K TextFault) (e : TextFault) → RangedOf c s said y r → e ≡ fault.Range n → q ≡ ok_or r e → KeptOf c s said n (entry s y) q
+  kept_of said y (Some x) q e h wrong is = subst (KeptOf c s said n (entry s y)) (sym is) (ap (entry s) h.0, h.1)
+  kept_of said y None q e h wrong is = subst (KeptOf c s said n (entry s y)) (sym (is ∙ ap (ok_or None) wrong)) (inr (y, refl, h, refl))
 
   module _ (sheet : List ℕ) (at next : ℕ) (l : Line) (reads : Reads Good line_text (drop at sheet) (Some (entry_of l, drop next sheet))) where
     pub line_read : (said : List ℕ → K → Said s) (x : K) → at < next → next ≤ length sheet → length (label_of l) + 1 + at ≤ next → KeptOf c s (said (label_of l)) n (entry_of l) (Ok x) → LineRead c s (λ label. said label x) sheet at (span_of l next) next

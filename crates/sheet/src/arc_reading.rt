@@ -5,7 +5,7 @@ ghost use Rattle.sheet.specs.Due.{arc as arc_due};
 ghost use Rattle.sheet.specs.Halts.{counts_of};
 ghost use Rattle.sheet.specs.Read.{RangedOf, arc_said};
 
-use crate::group::Group;
+use crate::group::{Due, Group};
 use crate::header::Header;
 use crate::ranges::count;
 use lines::{ArcLine, Line, TextFault};
@@ -15,16 +15,15 @@ use table::Arc;
 pub(crate) struct Arcs;
 
 /// The arc that the line of the arc `i + 1` says, where its numbers are in range.
-fn arc_of(line: &ArcLine, i: usize, header: &Header) -> Option<Arc>
-    requires { i < 512 }
-    ensures { RangedOf (counts_of header.now) (arc_due i) (arc_said [] i) (arc_of line.now) result }
+fn arc_of(line: &ArcLine, due: &Due<'_>) -> Option<Arc>
+    ensures { RangedOf (counts_of due.now.header.now) (arc_due due.now.i) (arc_said [] due.now.i) (arc_of line.now) result }
 {
-    if line.number != (i + 1) as i64 {
+    if line.number != due.number() {
         return None;
     }
-    let next = count(line.next, 0, header.arcs)?;
-    let destination = count(line.destination, 1, header.grades)?;
-    let weight = count(line.weight, 1, header.total as usize)? as u32;
+    let next = count(line.next, 0, due.header.arcs)?;
+    let destination = count(line.destination, 1, due.header.grades)?;
+    let weight = count(line.weight, 1, due.header.total as usize)? as u32;
     Some(Arc {
         next,
         destination,
@@ -53,10 +52,10 @@ impl Group for Arcs {
         header.arcs
     }
 
-    fn keep(text: &Line<'_>, line: usize, i: usize, header: &Header) -> Result<Arc, TextFault> {
+    fn keep(text: &Line<'_>, due: &Due<'_>) -> Result<Arc, TextFault> {
         let Line::Arc(arc) = text else {
-            return Err(TextFault::Form { line });
+            return Err(due.missing());
         };
-        arc_of(arc, i, header).ok_or(TextFault::Range { line })
+        arc_of(arc, due).ok_or(due.wrong())
     }
 }

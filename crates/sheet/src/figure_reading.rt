@@ -4,7 +4,7 @@ ghost use Rattle.sheet.specs.Due.{figure as figure_due};
 ghost use Rattle.sheet.specs.Halts.{counts_of, Halted};
 ghost use Rattle.sheet.specs.Read.{RangedOf, figure0, figure_said, FigurePartRead};
 
-use crate::group::{Group, read_group};
+use crate::group::{Due, Group, read_group};
 use crate::header::Header;
 use crate::ranges::{cost, count};
 use crate::table_lines::figure_count;
@@ -23,14 +23,13 @@ pub(crate) struct Figure {
 struct FigureLines;
 
 /// The figures that the line of the grade `i + 1` says, where its numbers are in range.
-fn figure_of(line: &FigureLine, i: usize, header: &Header) -> Option<Figure>
-    requires { i < 512 }
-    ensures { RangedOf (counts_of header.now) (figure_due i) (figure_said [] i) (figure_of line.now) result }
+fn figure_of(line: &FigureLine, due: &Due<'_>) -> Option<Figure>
+    ensures { RangedOf (counts_of due.now.header.now) (figure_due due.now.i) (figure_said [] due.now.i) (figure_of line.now) result }
 {
-    if line.grade != (i + 1) as i64 {
+    if line.grade != due.number() {
         return None;
     }
-    let row = count(line.row, 1, header.rows)?;
+    let row = count(line.row, 1, due.header.rows)?;
     let floor = cost(line.floor_first, line.floor_second, MAX_FIGURE_PART)?;
     let ceiling = cost(line.ceiling_first, line.ceiling_second, MAX_FIGURE_PART)?;
     Some(Figure {
@@ -61,11 +60,11 @@ impl Group for FigureLines {
         figure_count(header.figured, header.grades)
     }
 
-    fn keep(text: &Line<'_>, line: usize, i: usize, header: &Header) -> Result<Figure, TextFault> {
+    fn keep(text: &Line<'_>, due: &Due<'_>) -> Result<Figure, TextFault> {
         let Line::Figure(figure) = text else {
-            return Err(TextFault::Form { line });
+            return Err(due.missing());
         };
-        figure_of(figure, i, header).ok_or(TextFault::Range { line })
+        figure_of(figure, due).ok_or(due.wrong())
     }
 }
 

@@ -4,7 +4,7 @@ ghost use Rattle.sheet.specs.Due.{grade};
 ghost use Rattle.sheet.specs.Halts.{counts_of};
 ghost use Rattle.sheet.specs.Read.{RangedOf, grade_said};
 
-use crate::group::Group;
+use crate::group::{Due, Group};
 use crate::header::Header;
 use crate::ranges::count;
 use lines::{GradeLine, Line, TextFault};
@@ -13,14 +13,13 @@ use lines::{GradeLine, Line, TextFault};
 pub(crate) struct Grades;
 
 /// The first row that the line of the grade `i + 1` says, where its numbers are in range.
-fn grade_of(line: &GradeLine<'_>, i: usize, header: &Header) -> Option<usize>
-    requires { i < 512 }
-    ensures { RangedOf (counts_of header.now) (grade i) (grade_said line.now.label.now i) (grade_of line.now) result }
+fn grade_of(line: &GradeLine<'_>, due: &Due<'_>) -> Option<usize>
+    ensures { RangedOf (counts_of due.now.header.now) (grade due.now.i) (grade_said line.now.label.now due.now.i) (grade_of line.now) result }
 {
-    if line.number != (i + 1) as i64 {
+    if line.number != due.number() {
         return None;
     }
-    count(line.first_row, 1, header.rows)
+    count(line.first_row, 1, due.header.rows)
 }
 
 impl Group for Grades {
@@ -40,10 +39,10 @@ impl Group for Grades {
         header.grades
     }
 
-    fn keep(text: &Line<'_>, line: usize, i: usize, header: &Header) -> Result<usize, TextFault> {
+    fn keep(text: &Line<'_>, due: &Due<'_>) -> Result<usize, TextFault> {
         let Line::Grade(grade) = text else {
-            return Err(TextFault::Form { line });
+            return Err(due.missing());
         };
-        grade_of(grade, i, header).ok_or(TextFault::Range { line })
+        grade_of(grade, due).ok_or(due.wrong())
     }
 }

@@ -1,8 +1,9 @@
 //! The lines of a group: the grades, the rows, the arcs or the figures, one after another.
 
-ghost use Rattle.std.specs.Prelude.{◌≡◌, ℕ, ◌+◌, ◌<◌, ◌≤◌, List, length, drop, Ok, Err};
+ghost use Rattle.std.specs.Prelude.{◌≡◌, ℕ, ◌+◌, ◌<◌, ◌≤◌, List, length, drop, pos, Ok, Err};
 ghost use Rattle.lines.specs.Lines.{entry_of};
 ghost use Rattle.lines.specs.Places.{label_of};
+ghost use Rattle.lines.specs.declared.fault.TextFault.TheVariants as TextFault;
 ghost use Rattle.sheet.specs.Due.{Counts, Slot, Said};
 ghost use Rattle.sheet.specs.Halts.{counts_of, LineFault, Halted};
 ghost use Rattle.sheet.specs.Read.{span_of, KeptOf, LineRead, GroupRead};
@@ -10,6 +11,38 @@ ghost use Rattle.sheet.specs.Read.{span_of, KeptOf, LineRead, GroupRead};
 use crate::header::Header;
 use crate::labels::Span;
 use lines::{Line, TextFault, line_at};
+
+/// The line `i + 1` of a group, which is due as the sheet's line `line`.
+#[derive(Clone, Copy)]
+pub(crate) struct Due<'a> {
+    pub(crate) header: &'a Header,
+    pub(crate) line: usize,
+    pub(crate) i: usize,
+    ghost few: { i < 512 },
+}
+
+impl Due<'_> {
+    /// The number that the line has in its group.
+    pub(crate) fn number(&self) -> i64
+        ensures { result ≡ pos (self.now.i + 1) }
+    {
+        (self.i + 1) as i64
+    }
+
+    /// That no such line is there.
+    pub(crate) fn missing(&self) -> TextFault
+        ensures { result ≡ TextFault.Form self.now.line }
+    {
+        TextFault::Form { line: self.line }
+    }
+
+    /// That it has a number out of its range or order.
+    pub(crate) fn wrong(&self) -> TextFault
+        ensures { result ≡ TextFault.Range self.now.line }
+    {
+        TextFault::Range { line: self.line }
+    }
+}
 
 /// A group of lines, numbered from 1.
 pub(crate) trait Group {
@@ -33,15 +66,9 @@ pub(crate) trait Group {
     fn count(header: &Header) -> usize
         ensures { result ≡ count (counts_of header.now) };
 
-    /// What is kept of `text`, where it is the line `i + 1`, the sheet's line `line`, with each number in range.
-    fn keep(
-        text: &Line<'_>,
-        line: usize,
-        i: usize,
-        header: &Header,
-    ) -> Result<Self::Kept, TextFault>
-        requires { i < 512 }
-        ensures { KeptOf (counts_of header.now) (slot i) (λ x. said (label_of text.now) i x) line (entry_of text.now) result };
+    /// What is kept of `text`, where it is the line that is due, with each number in range.
+    fn keep(text: &Line<'_>, due: &Due<'_>) -> Result<Self::Kept, TextFault>
+        ensures { KeptOf (counts_of due.now.header.now) (slot due.now.i) (λ x. said (label_of text.now) due.now.i x) due.now.line (entry_of text.now) result };
 }
 
 /// Where a line's label lies: up to the byte that ends the line, and of no bytes where its kind has none.
@@ -61,21 +88,18 @@ fn label_span(text: &Line<'_>, next: usize) -> Span
     }
 }
 
-/// The line `i + 1` of a group, the sheet's line `line`: what is kept of it, where its label lies, and the place after it.
+/// The line that is due at the place `at`: what is kept of it, where its label lies, and the place after it.
 fn group_line<G: Group>(
     sheet: &[u8],
     at: usize,
-    line: usize,
-    i: usize,
-    header: &Header,
+    due: &Due<'_>,
 ) -> Result<(G::Kept, Span, usize), TextFault>
-    requires { i < 512 }
-    ensures { elim result [ Ok p ↦ LineRead (counts_of header.now) (G.slot i) (λ label. G.said label i p.0) sheet.now at p.1 p.2 | Err e ↦ LineFault (counts_of header.now) (G.slot i) line (drop at sheet.now) e ] }
+    ensures { elim result [ Ok p ↦ LineRead (counts_of due.now.header.now) (G.slot due.now.i) (λ label. G.said label due.now.i p.0) sheet.now at p.1 p.2 | Err e ↦ LineFault (counts_of due.now.header.now) (G.slot due.now.i) due.now.line (drop at sheet.now) e ] }
 {
     let Ok((text, next)) = line_at(sheet, at) else {
-        return Err(TextFault::Form { line });
+        return Err(due.missing());
     };
-    let kept = G::keep(&text, line, i, header)?;
+    let kept = G::keep(&text, due)?;
     Ok((kept, label_span(&text, next), next))
 }
 
@@ -97,7 +121,12 @@ pub(crate) fn read_group<G: Group, const N: usize>(
     let mut at = at;
     // Two arrays are filled side by side by the line's number: a zip of both is no plainer.
     for i in 0..G::count(header) {
-        (kept[i], label[i], at) = group_line::<G>(sheet, at, line + i, i, header)?;
+        let due = Due {
+            header,
+            line: line + i,
+            i,
+        };
+        (kept[i], label[i], at) = group_line::<G>(sheet, at, &due)?;
     }
     Ok((kept, label, at))
 }

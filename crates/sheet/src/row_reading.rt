@@ -5,7 +5,7 @@ ghost use Rattle.sheet.specs.Due.{row as row_due};
 ghost use Rattle.sheet.specs.Halts.{counts_of};
 ghost use Rattle.sheet.specs.Read.{RangedOf, row_said};
 
-use crate::group::Group;
+use crate::group::{Due, Group};
 use crate::header::Header;
 use crate::ranges::{cost, count};
 use lines::{Line, RowLine, TextFault};
@@ -15,16 +15,15 @@ use table::{MAX_COST_PART, Row};
 pub(crate) struct Rows;
 
 /// The row that the line of the row `i + 1` says, where its numbers are in range.
-fn row_of(line: &RowLine<'_>, i: usize, header: &Header) -> Option<Row>
-    requires { i < 512 }
-    ensures { RangedOf (counts_of header.now) (row_due i) (row_said line.now.label.now i) (row_of line.now) result }
+fn row_of(line: &RowLine<'_>, due: &Due<'_>) -> Option<Row>
+    ensures { RangedOf (counts_of due.now.header.now) (row_due due.now.i) (row_said line.now.label.now due.now.i) (row_of line.now) result }
 {
-    if line.number != (i + 1) as i64 {
+    if line.number != due.number() {
         return None;
     }
-    let next = count(line.next, 0, header.rows)?;
+    let next = count(line.next, 0, due.header.rows)?;
     let cost = cost(line.first_part, line.second_part, MAX_COST_PART)?;
-    let first_arc = count(line.first_arc, 1, header.arcs)?;
+    let first_arc = count(line.first_arc, 1, due.header.arcs)?;
     Some(Row {
         next,
         cost,
@@ -53,10 +52,10 @@ impl Group for Rows {
         header.rows
     }
 
-    fn keep(text: &Line<'_>, line: usize, i: usize, header: &Header) -> Result<Row, TextFault> {
+    fn keep(text: &Line<'_>, due: &Due<'_>) -> Result<Row, TextFault> {
         let Line::Row(row) = text else {
-            return Err(TextFault::Form { line });
+            return Err(due.missing());
         };
-        row_of(row, i, header).ok_or(TextFault::Range { line })
+        row_of(row, due).ok_or(due.wrong())
     }
 }

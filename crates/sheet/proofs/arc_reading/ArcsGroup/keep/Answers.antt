@@ -9,7 +9,7 @@ use Rattle.sheet.proofs.arc_reading.ArcsGroup.keep.Goals as goal
 
 pub returns : goal.returns
 returns c =
-    let k = counts_of c.args.header.now in
-    let i = c.args.i in
-    let kept = kept_of k (arc i) c.args.line (arc_said [] i) (arc_of c.in-Arc.arc) c.arc_of.result c.ok_or.result c.arc_of.ensures c.ok_or.ensures.value in
-    subst (λ l. KeptOf k (arc i) (arc_said (label_of l) i) c.args.line (entry_of l) c.ok_or.result) (sym c.in-Arc.is) kept
+    let k = counts_of c.args.due.now.header.now in
+    let i = c.args.due.now.i in
+    let kept = kept_of k (arc i) c.args.due.now.line (arc_said [] i) (arc_of c.in-Arc.arc) c.arc_of.result c.ok_or.result c.wrong.result c.arc_of.ensures c.wrong.ensures c.ok_or.ensures.value in
+    subst (λ l. KeptOf k (arc i) (arc_said (label_of l) i) c.args.due.now.line (entry_of l) c.ok_or.result) (sym c.in-Arc.is) kept

@@ -9,7 +9,7 @@ use Rattle.sheet.proofs.grade_reading.GradesGroup.keep.Goals as goal
 
 pub returns : goal.returns
 returns c =
-    let k = counts_of c.args.header.now in
-    let i = c.args.i in
-    let kept = kept_of k (grade i) c.args.line (grade_said c.in-Grade.grade.label.now i) (grade_of c.in-Grade.grade) c.grade_of.result c.ok_or.result c.grade_of.ensures c.ok_or.ensures.value in
-    subst (λ l. KeptOf k (grade i) (grade_said (label_of l) i) c.args.line (entry_of l) c.ok_or.result) (sym c.in-Grade.is) kept
+    let k = counts_of c.args.due.now.header.now in
+    let i = c.args.due.now.i in
+    let kept = kept_of k (grade i) c.args.due.now.line (grade_said c.in-Grade.grade.label.now i) (grade_of c.in-Grade.grade) c.grade_of.result c.ok_or.result c.wrong.result c.grade_of.ensures c.wrong.ensures c.ok_or.ensures.value in
+    subst (λ l. KeptOf k (grade i) (grade_said (label_of l) i) c.args.due.now.line (entry_of l) c.ok_or.result) (sym c.in-Grade.is) kept

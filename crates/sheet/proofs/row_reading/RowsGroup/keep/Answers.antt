@@ -9,7 +9,7 @@ use Rattle.sheet.proofs.row_reading.RowsGroup.keep.Goals as goal
 
 pub returns : goal.returns
 returns c =
-    let k = counts_of c.args.header.now in
-    let i = c.args.i in
-    let kept = kept_of k (row i) c.args.line (row_said c.in-Row.row.label.now i) (row_of c.in-Row.row) c.row_of.result c.ok_or.result c.row_of.ensures c.ok_or.ensures.value in
-    subst (λ l. KeptOf k (row i) (row_said (label_of l) i) c.args.line (entry_of l) c.ok_or.result) (sym c.in-Row.is) kept
+    let k = counts_of c.args.due.now.header.now in
+    let i = c.args.due.now.i in
+    let kept = kept_of k (row i) c.args.due.now.line (row_said c.in-Row.row.label.now i) (row_of c.in-Row.row) c.row_of.result c.ok_or.result c.wrong.result c.row_of.ensures c.wrong.ensures c.ok_or.ensures.value in
+    subst (λ l. KeptOf k (row i) (row_said (label_of l) i) c.args.due.now.line (entry_of l) c.ok_or.result) (sym c.in-Row.is) kept
