@@ -28,6 +28,7 @@ fn read_page<R: Ranking>(ranking: &R, text: &[u8]) -> Result<Page, Refusal>
     let Some(figures) = sheet.figures else {
         return Ok(start_page(ranking, &sound));
     };
+    // A broken rule, if there is one, is the error: no chain says both ends as plainly.
     match first_broken(ranking, &sound, &figures) {
         Some(fault) => Err(Refusal::Figures(fault)),
         None => Ok(Page { sound, figures }),

@@ -82,6 +82,7 @@ pub fn improve_rounds<R: Rounding>(ranking: &R, page: &Page, n: u32) -> Improved
 {
     let mut page = *page;
     let mut gave_way = 0;
+    // A count of turns, which indexes nothing; so is the loop of the sweeps.
     for _turn in 0..n {
         let round = improve_once(ranking, &page);
         page = round.page;

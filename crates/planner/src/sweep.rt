@@ -49,7 +49,7 @@ fn lowered_ceiling<R: Rounding>(ranking: &R, grade: Grade<'_>, ceilings: &Column
 #[derive(Clone, Copy)]
 pub struct Sweep {
     pub page: Page,
-    /// Whether some floor or ceiling changed.
+    /// Whether some floor or ceiling changed. The page is there in any case.
     pub moved: bool,
 }
 

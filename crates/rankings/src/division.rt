@@ -1,5 +1,6 @@
 // Quotients taken to whole numbers, of either sign. The machine's `/` goes toward zero, so its quotient is put right
-// where the remainder has the sign that shows that it went the wrong way.
+// where the remainder has the sign that shows that it went the wrong way. That form is the project's rule, and down and
+// up are two functions, since one that took the side as a parameter would branch on it.
 ghost use Rattle.std.specs.Prelude.{◌≡◌, ◌≤◌, unsigned_abs};
 ghost use Rattle.rankings.specs.Costs.{Down, Up, floor, ceil, ranked_part, largest_divisor};
 

@@ -5,7 +5,7 @@ ghost use Rattle.rankings.specs.Choice.{is_cheaper, is_dearer};
 ghost use Rattle.rankings.specs.Laws.{Ordered, Linear, SomeDearer};
 
 // An order of costs by how dear they are. The relation speaks of costs of any size; the questions are for those whose
-// parts are within `RANKED_PART` of zero.
+// parts are within `RANKED_PART` of zero. A cost passes as a bare pair by a rule of the project, so that no type says so.
 pub trait Ranking {
     // a is no dearer than b
     ghost ranks: { Self → Cost → Cost → Bool };

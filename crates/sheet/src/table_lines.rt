@@ -1,4 +1,7 @@
 //! The lines that say what a table, its figures and its labels say.
+//!
+//! `as` loses nothing here, as the check proves; no `From` joins these types, and `try_from` would add a refusal that
+//! never comes. So it is where counts are read.
 
 ghost use Rattle.std.specs.Prelude.{◌≡◌, ◌<◌, ◌≤◌, length, slice_index, cond};
 ghost use Rattle.lines.specs.Lines.{entry_of};

@@ -35,6 +35,7 @@ fn write_lines<'a, F: Fn(usize) -> Line<'a>>(
 }
 
 /// Writes the whole sheet, and returns its length, or `None` where it has no room.
+// `figured` is the public call's: it says what is wanted, and the page has its figures in any case.
 fn write_all(
     out: &mut [u8],
     page: &Page,

@@ -1,4 +1,5 @@
 /// A row (action): what it costs, and the first arc of its chain. `next` is the grade's next row, 0 at the last.
+// 0 and no `Option`, by a rule of the project: the table is plain data, in the sheet's own numbers.
 #[derive(Clone, Copy)]
 pub struct Row {
     pub next: usize,

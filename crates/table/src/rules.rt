@@ -14,6 +14,8 @@ use crate::limits::MAX_GRADES;
 use crate::sound::SoundTable;
 use rankings::Ranking;
 
+// Floors and ceilings have a function each: one for both would take the side as a parameter and branch on it.
+
 /// Whether the grade's floor keeps to what the row k allows.
 fn keeps_floor<R: Ranking>(ranking: &R, grade: Grade<'_>, floors: &Column, k: usize) -> bool
     ensures { result ≡ keeps_floor (R.ranks ranking.now) grade.entry.sound.now.table (figure_at floors.now.at) grade.entry.number (lookahead_of grade.entry.sound.now.table k (figure_at floors.now.at)) }

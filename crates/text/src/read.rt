@@ -36,6 +36,7 @@ fn natural(bytes: &[u8], end: End) -> Option<(u64, &[u8])>
 }
 
 /// The number at the front, with a minus where it is negative and never `-0`, and what follows its end.
+// `as` loses nothing: a number of 11 digits fits.
 pub fn number(bytes: &[u8], end: End) -> Option<(i64, &[u8])>
     ensures { Reads Small (number_text (byte_of end)) bytes.now (seen (λ n. n) result) }
 {
