@@ -66,6 +66,7 @@ pub(crate) trait Group {
     fn count(header: &Header) -> usize
         ensures { result ≡ count (counts_of header.now) };
 
+    // Each kind's `keep` is a pattern and a call of its own: one body for all would take both as parameters.
     /// What is kept of `text`, where it is the line that is due, with each number in range.
     fn keep(text: &Line<'_>, due: &Due<'_>) -> Result<Self::Kept, TextFault>
         ensures { KeptOf (counts_of due.now.header.now) (slot due.now.i) (λ x. said (label_of text.now) due.now.i x) due.now.line (entry_of text.now) result };

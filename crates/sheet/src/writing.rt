@@ -28,6 +28,7 @@ fn write_lines<'a, F: Fn(usize) -> Line<'a>>(
     ensures lines { (g : ℕ → Entry) → ((i : ℕ) (l : Line) → i < n → F.post line i l → entry_of l ≡ g i) → Writes out.old at (series (λ i. line_text (g i)) n) result out.new }
 {
     let mut at = at;
+    // By index, from which the closure makes the line: a `try_fold` would have to borrow `out` in a closure too.
     for i in 0..n {
         at = write_line(out, at, &line(i))?;
     }

@@ -36,6 +36,8 @@ fn keeps_ceiling<R: Ranking>(ranking: &R, grade: Grade<'_>, ceilings: &Column, k
     }
 }
 
+// Plan rows and ceilings have a loop each: one for both would take the test and the fault as parameters.
+
 /// Refuses the first plan row that is not one of its grade's rows.
 pub(crate) fn check_plan(sound: &SoundTable, rows: &[usize; MAX_GRADES]) -> Result<(), FiguresFault>
     ensures { result_err result ≡ or_later (first_stray sound.now.table rows.now) PlanRow None }
