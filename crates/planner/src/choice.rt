@@ -26,6 +26,25 @@ fn cheaper_of<R: Ranking>(ranking: &R, best: Choice, next: Choice) -> Choice
     }
 }
 
+/// The grade's cheapest row one step ahead of the figures; the first in the chain among equals.
+pub(crate) fn cheapest<R: Ranking>(
+    ranking: &R,
+    grade: Grade<'_>,
+    figures: &Column,
+) -> Option<Choice>
+    ensures is { result ≡ cheapest_row (R.ranks ranking.now) grade.entry.sound.now.table (figure_at figures.now.at) grade.entry.number }
+    ensures within { IfSome result (λ c. Sized (scaling grade.entry.sound.now.table * 10 ^ 10) c.cost) }
+    ensures row { IfSome result (λ c. Within 1 grade.entry.sound.now.table.rows c.row) }
+{
+    let mut best = None;
+    for row in grade.rows() {
+        let cost = lookahead(grade.sound, row, figures)?;
+        let next = Choice { row, cost };
+        best = Some(best.map_or(next, |best| cheaper_of(ranking, best, next)));
+    }
+    best
+}
+
 /// The cheapest row of the grade g one step ahead of the figures; the first in the chain among equals. Absent where
 /// there is no grade g.
 pub fn cheapest_row<R: Ranking>(
@@ -42,15 +61,5 @@ pub fn cheapest_row<R: Ranking>(
     if !(1..=sound.table.grades).contains(&g) {
         return None;
     }
-    let grade = Grade { sound, number: g };
-    let mut best = None;
-    for row in grade.rows() {
-        let cost = lookahead(sound, row, figures)?;
-        let next = Choice { row, cost };
-        best = Some(match best {
-            Some(best) => cheaper_of(ranking, best, next),
-            None => next,
-        });
-    }
-    best
+    cheapest(ranking, Grade { sound, number: g }, figures)
 }

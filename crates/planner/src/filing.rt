@@ -1,9 +1,9 @@
-ghost use Rattle.std.specs.Prelude.{◌≡◌, ◌≤◌, IfSome};
-ghost use Rattle.table.specs.Ranges.{Within, FigureIn};
+ghost use Rattle.std.specs.Prelude.{◌≡◌, IfSome};
+ghost use Rattle.table.specs.Ranges.{FigureIn};
 ghost use Rattle.table.specs.Rules.{plan_row};
 ghost use Rattle.table.specs.Filing.{FilingTells};
 ghost use Rattle.planner.specs.Takings.{Taken, TakenKeeps};
-ghost use Rattle.planner.specs.Sweeps.{shown, applied};
+ghost use Rattle.planner.specs.Sweeps.{shown};
 ghost use Rattle.planner.specs.Keeping.{dearer_floor, cheaper_choice, nearer_of};
 
 use crate::choice::Choice;

@@ -5,7 +5,7 @@ ghost use Rattle.planner.specs.Sweeps.{shown};
 ghost use Rattle.planner.specs.Keeping.{Keeping};
 ghost use Rattle.planner.specs.Improvements.{eased, given, round_of, giving_way, rounds};
 
-use crate::choice::cheapest_row;
+use crate::choice::cheapest;
 use crate::grades::{count_given, per_grade, replaced};
 use crate::sweep::divisor;
 use rankings::Rounding;
@@ -33,21 +33,21 @@ fn better_row<R: Rounding>(ranking: &R, grade: Grade<'_>, figures: &Figures) -> 
     ensures row { IfSome result (Within 1 grade.entry.sound.now.table.rows) }
 {
     let kept = lookahead(grade.sound, grade.plan_row(&figures.row), &figures.ceiling)?;
-    let best = cheapest_row(ranking, grade.sound, grade.number, &figures.ceiling)?;
+    let best = cheapest(ranking, grade, &figures.ceiling)?;
     ranking.cheaper(best.cost, kept).then_some(best.row)
 }
 
-/// What one improvement round comes to.
+/// What improvement comes to.
 #[derive(Clone, Copy)]
-pub struct Round {
+pub struct Improved {
     pub page: Page,
-    /// How many plan rows gave way to a cheaper one.
+    /// How many times, over all rounds, a plan row gave way to a cheaper one.
     pub gave_way: usize,
 }
 
 /// One improvement round (policy improvement): each ceiling follows its plan row over the ceilings before the round, and
 /// then plan rows give way to cheaper ones over the new ceilings. Floors stay.
-pub fn improve_once<R: Rounding>(ranking: &R, page: &Page) -> Round
+pub fn improve_once<R: Rounding>(ranking: &R, page: &Page) -> Improved
     ensures table { result.page.sound ≡ page.now.sound }
     ensures after { shown result.page.figures ≡ round_of (R.Ranking.ranks ranking.now) (R.dear ranking.now) page.now.sound.table (shown page.now.figures) }
     ensures gave_way { result.gave_way ≡ giving_way (R.Ranking.ranks ranking.now) (R.dear ranking.now) page.now.sound.table (shown page.now.figures) }
@@ -60,18 +60,10 @@ pub fn improve_once<R: Rounding>(ranking: &R, page: &Page) -> Round
     figures.ceiling = Column { at: ceilings };
     let better = per_grade(&sound, |grade| better_row(ranking, grade, &figures));
     figures.row = replaced(&figures.row, |i| better[i]);
-    Round {
+    Improved {
         page: Page { sound, figures },
         gave_way: count_given(&better),
     }
-}
-
-/// What several improvement rounds come to.
-#[derive(Clone, Copy)]
-pub struct Improved {
-    pub page: Page,
-    /// How many times, over all rounds, a plan row gave way.
-    pub gave_way: usize,
 }
 
 /// Runs n improvement rounds.
@@ -82,7 +74,7 @@ pub fn improve_rounds<R: Rounding>(ranking: &R, page: &Page, n: u32) -> Improved
 {
     let mut page = *page;
     let mut gave_way = 0;
-    // A count of turns, which indexes nothing; so is the loop of the sweeps.
+    // A count of turns, which indexes nothing.
     for _turn in 0..n {
         let round = improve_once(ranking, &page);
         page = round.page;

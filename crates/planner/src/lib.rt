@@ -13,6 +13,6 @@ mod sweep;
 pub use bounds::bounds_stand;
 pub use choice::{Choice, cheapest_row};
 pub use filing::take_filing;
-pub use improve::{Improved, Round, improve_once, improve_rounds};
+pub use improve::{Improved, improve_once, improve_rounds};
 pub use start::start_page;
 pub use sweep::{Sweep, Swept, sweep_once, sweep_up_to};

@@ -3,9 +3,9 @@ ghost use Rattle.table.specs.Ranges.{FigureIn};
 ghost use Rattle.table.specs.Lookahead.{figure_at, scaling};
 ghost use Rattle.planner.specs.Grades.{ChoiceIn};
 ghost use Rattle.planner.specs.Keeping.{Keeping};
-ghost use Rattle.planner.specs.Sweeps.{applied, raised, lowered, lowered_row, lowered_cost, floors_move, ceilings_move, shown, sweep_of, moves, sweeps};
+ghost use Rattle.planner.specs.Sweeps.{raised, lowered, shown, sweep_of, moves, sweeps};
 
-use crate::choice::{Choice, cheapest_row};
+use crate::choice::{Choice, cheapest};
 use crate::grades::{per_grade, revised, some_given};
 use rankings::{Divisor, Rounding};
 use table::{Column, Figures, Grade, Page, SoundTable};
@@ -24,7 +24,7 @@ fn raised_floor<R: Rounding>(ranking: &R, grade: Grade<'_>, floors: &Column) -> 
     ensures is { result ≡ raised (R.Ranking.ranks ranking.now) (R.cheap ranking.now) (R.dear ranking.now) grade.entry.sound.now.table (figure_at floors.now.at) grade.entry.number }
     ensures within { IfSome result FigureIn }
 {
-    let best = cheapest_row(ranking, grade.sound, grade.number, floors)?;
+    let best = cheapest(ranking, grade, floors)?;
     let floor = ranking.round_cheap(best.cost, divisor(grade.sound));
     ranking.dearer(floor, grade.figure(floors)).then_some(floor)
 }
@@ -34,7 +34,7 @@ fn lowered_ceiling<R: Rounding>(ranking: &R, grade: Grade<'_>, ceilings: &Column
     ensures is { result ≡ lowered (R.Ranking.ranks ranking.now) (R.cheap ranking.now) (R.dear ranking.now) grade.entry.sound.now.table (figure_at ceilings.now.at) grade.entry.number }
     ensures within { IfSome result (ChoiceIn grade.entry.sound.now.table.rows) }
 {
-    let best = cheapest_row(ranking, grade.sound, grade.number, ceilings)?;
+    let best = cheapest(ranking, grade, ceilings)?;
     let cost = ranking.round_dear(best.cost, divisor(grade.sound));
     let choice = Choice {
         row: best.row,
@@ -78,7 +78,7 @@ pub struct Swept {
     pub page: Page,
     /// How many sweeps ran.
     pub runs: usize,
-    /// Whether the last one changed no floor and no ceiling.
+    /// Whether the last one changed no floor and no ceiling. The page is there in any case.
     pub settled: bool,
 }
 
@@ -89,6 +89,7 @@ pub fn sweep_up_to<R: Rounding>(ranking: &R, page: &Page, n: usize) -> Swept
     ensures keeps { Keeping (R.Ranking.ranks ranking.now) page.now.sound.table (shown page.now.figures) (shown result.page.figures) }
 {
     let mut page = *page;
+    // A count of turns, which indexes nothing.
     for turn in 0..n {
         let sweep = sweep_once(ranking, &page);
         page = sweep.page;
