@@ -1,4 +1,4 @@
-ghost use Rattle.std.specs.Prelude.{◌≡◌, ◌≤◌, length, None, Ok, Err, IfErr};
+ghost use Rattle.std.specs.Prelude.{◌≡◌, None, IfErr};
 ghost use Rattle.book.specs.Calls.{Opens, Opened, TextTold, Written, OldLine, SweptBook};
 
 use crate::book::Book;
@@ -14,7 +14,7 @@ use table::{Page, check_table, first_broken};
 pub struct SweepCount {
     /// How many sweeps ran.
     pub runs: usize,
-    /// Whether the last one changed no floor and no ceiling.
+    /// Whether the last one changed no floor and no ceiling, beside a count that is there in any case.
     pub settled: bool,
 }
 
@@ -59,6 +59,7 @@ impl<R: Ranking> Book<R> {
 
     /// Writes the book's table as a sheet, with its figures or without, with the labels of an old sheet, and returns
     /// the sheet's length. What `out` holds beyond that stays; a refusal leaves all of `out`.
+    // `figured` says what is wanted: the page has its figures in any case.
     pub fn write(&self, figured: bool, old: &[u8], out: &mut [u8]) -> Result<usize, Refusal>
         ensures written { Written figured old.now self.now.page out.old result out.new }
         ensures old { OldLine old.now self.now.page result }

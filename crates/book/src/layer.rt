@@ -14,6 +14,7 @@ impl From<Layer> for u32 {
     ghost from_gives = { λ layer n. n ≡ layer_number layer };
 
     fn from(layer: Layer) -> u32 {
+        // The discriminants are the numbers.
         layer as u32
     }
 }

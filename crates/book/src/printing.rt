@@ -21,6 +21,7 @@ fn write_refusal(out: &mut [u8], refusal: &Refusal) -> Option<usize>
     let at = write_bytes(out, 0, b"no ")?;
     let at = write_count(out, at, number, End::Blank)?;
     let at = write_count(out, at, u64::from(layer), End::Blank)?;
+    // `as` loses nothing: no `From` joins `usize` and `u64`.
     let at = write_count(out, at, first as u64, End::Blank)?;
     write_count(out, at, second as u64, End::Line)
 }
@@ -38,11 +39,13 @@ fn recounted(sheet: &[u8], out: &mut [u8; MAX_SHEET]) -> Result<usize, Refusal>
 
 /// What the program prints for a sheet, into `out`: the sheet with figures, or the line of the refusal. Returns how
 /// many bytes that is.
+// A length beside the caller's buffer: by a rule of the project a public call fills what it is lent.
 pub fn recount(sheet: &[u8], out: &mut [u8; MAX_SHEET]) -> usize
     ensures printed { Printed sheet.now out.old result out.new }
     ensures only { PrintedOnly sheet.now out.old result out.new }
     ensures within { result ≤ length out.new }
 {
+    // Both arms write into `out`, so that a closure for the error would have to borrow it too.
     match recounted(sheet, out) {
         Ok(length) => length,
         // The buffer has room for every such line.

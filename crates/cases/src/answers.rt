@@ -30,6 +30,7 @@ pub(crate) fn begins(sheet: &[u8], expected: &[u8]) -> bool
 }
 
 /// Whether a call is refused with this number and layer and these places.
+// In numbers, and not as a `Refusal`: what is tested is the number, layer and places by which a refusal is known.
 pub(crate) fn refused<T: Drop>(
     answer: Result<T, Refusal>,
     number: u32,

@@ -1,6 +1,6 @@
 //! What the tests of plans do with a sheet and with pages.
 
-ghost use Rattle.std.specs.Prelude.{◌≡◌, Ok, Err, IfOk};
+ghost use Rattle.std.specs.Prelude.{IfOk};
 ghost use Rattle.std.specs.Bool.{OnTrue};
 ghost use Rattle.cases.specs.Shows.{Starts, Swept, LineShown, LinesShown, Answers};
 
@@ -28,6 +28,7 @@ pub(crate) fn swept<R: Rounding>(ranking: &R, text: &[u8]) -> Result<Page, Fail>
 }
 
 /// Whether the page has the line's row, floor and ceiling at the place k, from 0.
+// By hand: a line is compared with three columns.
 fn shows_line(page: &Page, k: usize, line: &FiledLine) -> bool
     ensures { OnTrue result (LineShown page.now.figures line.now k) }
 {
