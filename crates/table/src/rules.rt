@@ -20,20 +20,16 @@ use rankings::Ranking;
 fn keeps_floor<R: Ranking>(ranking: &R, grade: Grade<'_>, floors: &Column, k: usize) -> bool
     ensures { result ≡ keeps_floor (R.ranks ranking.now) grade.entry.sound.now.table (figure_at floors.now.at) grade.entry.number (lookahead_of grade.entry.sound.now.table k (figure_at floors.now.at)) }
 {
-    match lookahead(grade.sound, k, floors) {
-        Some(x) => ranking.no_dearer(grade.scaled_figure(floors), x),
-        None => false,
-    }
+    let floor = grade.scaled_figure(floors);
+    lookahead(grade.sound, k, floors).is_some_and(|x| ranking.no_dearer(floor, x))
 }
 
 /// Whether the grade's ceiling covers what the row k needs.
 fn keeps_ceiling<R: Ranking>(ranking: &R, grade: Grade<'_>, ceilings: &Column, k: usize) -> bool
     ensures { result ≡ keeps_ceiling (R.ranks ranking.now) grade.entry.sound.now.table (figure_at ceilings.now.at) grade.entry.number (lookahead_of grade.entry.sound.now.table k (figure_at ceilings.now.at)) }
 {
-    match lookahead(grade.sound, k, ceilings) {
-        Some(x) => ranking.no_dearer(x, grade.scaled_figure(ceilings)),
-        None => false,
-    }
+    let ceiling = grade.scaled_figure(ceilings);
+    lookahead(grade.sound, k, ceilings).is_some_and(|x| ranking.no_dearer(x, ceiling))
 }
 
 // Plan rows and ceilings have a loop each: one for both would take the test and the fault as parameters.
