@@ -94,12 +94,13 @@ pub(crate) fn check_ceilings<R: Ranking>(
 }
 
 /// Refuses the first rule that the figures break: plan rows before floors before ceilings, each over all grades.
-fn check_rules<R: Ranking>(
+pub fn check_figures<R: Ranking>(
     ranking: &R,
     sound: &SoundTable,
     figures: &Figures,
 ) -> Result<(), FiguresFault>
-    ensures { result_err result ≡ figures_fault (R.ranks ranking.now) sound.now.table figures.now }
+    ensures is { result_err result ≡ figures_fault (R.ranks ranking.now) sound.now.table figures.now }
+    ensures kept { Tells (R.ranks ranking.now) sound.now.table figures.now (result_err result) }
 {
     check_plan(sound, &figures.row)?;
     check_floors(ranking, sound, &figures.floor)?;
@@ -115,5 +116,5 @@ pub fn first_broken<R: Ranking>(
     ensures is { result ≡ figures_fault (R.ranks ranking.now) sound.now.table figures.now }
     ensures kept { Tells (R.ranks ranking.now) sound.now.table figures.now result }
 {
-    check_rules(ranking, sound, figures).err()
+    check_figures(ranking, sound, figures).err()
 }
