@@ -32,9 +32,8 @@ fn keeps_ceiling<R: Ranking>(ranking: &R, grade: Grade<'_>, ceilings: &Column, k
     lookahead(grade.sound, k, ceilings).is_some_and(|x| ranking.no_dearer(x, ceiling))
 }
 
-// Plan rows and ceilings have a loop each: one for both would take the test and the fault as parameters.
-
 /// Refuses the first plan row that is not one of its grade's rows.
+// A loop beside check_ceilings': one for both would take the test and the fault as parameters.
 pub(crate) fn check_plan(sound: &SoundTable, rows: &[usize; MAX_GRADES]) -> Result<(), FiguresFault>
     ensures { result_err result ≡ or_later (first_stray sound.now.table rows.now) PlanRow None }
 {
@@ -73,6 +72,7 @@ pub(crate) fn check_floors<R: Ranking>(
 }
 
 /// Refuses the first ceiling that breaks its rule at its grade's plan row.
+// A loop beside check_plan's: one for both would take the test and the fault as parameters.
 pub(crate) fn check_ceilings<R: Ranking>(
     ranking: &R,
     sound: &SoundTable,
