@@ -5,6 +5,7 @@ use Rattle.std.proofs.lemmas.Bool.{false≢true, not-false, cases_Bool, cases_eq
 use Rattle.std.proofs.lemmas.Bool.Decides.{eqb_tells}
 use Rattle.rankings.specs.Costs.{Cost, times}
 use Rattle.table.specs.declared.table.Table.{Table}
+use Rattle.table.specs.declared.sound.SoundTable.{SoundTable}
 use Rattle.table.specs.declared.figures.Figures.{Figures}
 use Rattle.table.specs.declared.fault.FiguresFault.{FiguresFault}
 use Rattle.table.specs.declared.fault.FiguresFault.TheVariants.{PlanRow, Floor, Ceiling}
@@ -16,7 +17,7 @@ use Rattle.table.specs.Sound.{Chain, Sound}
 use Rattle.table.specs.Kept.{RowOf, PlanRule, FloorRule, PlanCeilingRule, Keeps, Tells, KeptExactly}
 use Rattle.table.proofs.Lookaheads.{ahead_some}
 use Rattle.table.proofs.Pairs.{in_here, in_later}
-use Rattle.table.proofs.Soundness.{chain_same, rows_end}
+use Rattle.table.proofs.Soundness.{chain_same, rows_end, sound_table}
 
 -- what lies in a chain is in range
 chain_in : (next : ℕ → ℕ) (n : ℕ) → ((k : ℕ) → Within 1 n k → next k ≤ n) → (f k : ℕ) (xs : List ℕ) → f ≤ n → Chain next f xs → has k xs ≡ true → Within 1 n k
@@ -156,6 +157,6 @@ pub kept_exactly : KeptExactly
 kept_exactly le t s f = (none_kept le t s f, kept_none le t s f)
 
 -- what the check answers tells whether the rules are kept
-pub answer_kept : (le : Cost → Cost → Bool) (t : Table) → Sound t → (f : Figures) (r : Option FiguresFault) → r ≡ figures_fault le t f → Tells le t f r
-answer_kept le t s f None e = (kept_exactly le t s f).0 (sym e)
-answer_kept le t s f (Some x) e = λ k. none-some x (sym (e ∙ (kept_exactly le t s f).1 k))
+pub answer_kept : (le : Cost → Cost → Bool) (s : SoundTable) (f : Figures) (r : Option FiguresFault) → r ≡ figures_fault le s.table f → Tells le s.table f r
+answer_kept le s f None e = (kept_exactly le s.table (sound_table s) f).0 (sym e)
+answer_kept le s f (Some x) e = λ k. none-some x (sym (e ∙ (kept_exactly le s.table (sound_table s) f).1 k))

@@ -31,7 +31,7 @@ pub fn lookahead(sound: &SoundTable, k: usize, figures: &Column) -> Option<(i64,
     ensures modest { IfSome result Modest }
 {
     let table = &sound.table;
-    if k == 0 || k > table.rows {
+    if !(1..=table.rows).contains(&k) {
         return None;
     }
     let scaling = table.fineness * (table.denominator * table.total);

@@ -7,8 +7,10 @@ use crate::table::Table;
 
 /// What is linked in chains: each has the number of the next, 0 at the last.
 pub trait Linked {
+    // the number of the next, 0 at the last
     ghost next_link: { Self → ℕ };
 
+    // what a place past the last link is read as, in the clauses alone
     ghost none: { Self };
 
     fn next_link(&self) -> usize
@@ -37,6 +39,7 @@ impl Linked for Arc {
 
 /// What a chain starts at: the number of its first.
 pub(crate) trait Head {
+    // the number of the chain's first
     ghost head: { Self → ℕ };
 
     fn head(&self) -> usize

@@ -28,7 +28,7 @@ pub fn check_table(table: &Table) -> Result<SoundTable, TableFault>
     ensures sound { elim result [ Ok _ ↦ Sound table.now | Err _ ↦ (Sound table.now → ⊥) ] }
     ensures walks { elim result [ Ok _ ↦ Walked table.now | Err _ ↦ Unit {0} ] }
 {
-    // A fault, if there is one, is the error: no chain says both ends as plainly.
+    // SoundTable's ghost field needs the fact of the None arm.
     match first_fault(table) {
         Some(fault) => Err(fault),
         None => {

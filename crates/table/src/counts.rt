@@ -19,6 +19,6 @@ pub(crate) fn lowest_off(counts: &[u16], least: u16, most: u16) -> Option<usize>
 {
     let off = counts
         .iter()
-        .position(|count| *count < least || *count > most);
+        .position(|count| !(least..=most).contains(count));
     off.map(|i| i + 1)
 }

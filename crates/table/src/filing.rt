@@ -2,7 +2,6 @@ ghost use Rattle.std.specs.Prelude.{◌≡◌, ◌≤◌, ◌&&◌, length, None
 ghost use Rattle.std.specs.Result.{result_err};
 ghost use Rattle.rankings.specs.Costs.{zero};
 ghost use Rattle.table.specs.Faults.{lowest};
-ghost use Rattle.table.specs.Ranges.{FigureIn};
 ghost use Rattle.table.specs.Filing.{is_figure, no_line, outsized, or_part, Copies, Filed, FilingTells};
 
 use crate::column::Column;

@@ -35,7 +35,7 @@ pub use limits::{
 };
 pub use page::Page;
 pub use rows::{Arc, Row};
-pub use rules::first_broken;
+pub use rules::{check_figures, first_broken};
 pub use sound::SoundTable;
 pub use table::Table;
 pub use walk::Walk;

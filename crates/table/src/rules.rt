@@ -20,25 +20,20 @@ use rankings::Ranking;
 fn keeps_floor<R: Ranking>(ranking: &R, grade: Grade<'_>, floors: &Column, k: usize) -> bool
     ensures { result ≡ keeps_floor (R.ranks ranking.now) grade.entry.sound.now.table (figure_at floors.now.at) grade.entry.number (lookahead_of grade.entry.sound.now.table k (figure_at floors.now.at)) }
 {
-    match lookahead(grade.sound, k, floors) {
-        Some(x) => ranking.no_dearer(grade.scaled_figure(floors), x),
-        None => false,
-    }
+    let floor = grade.scaled_figure(floors);
+    lookahead(grade.sound, k, floors).is_some_and(|x| ranking.no_dearer(floor, x))
 }
 
 /// Whether the grade's ceiling covers what the row k needs.
 fn keeps_ceiling<R: Ranking>(ranking: &R, grade: Grade<'_>, ceilings: &Column, k: usize) -> bool
     ensures { result ≡ keeps_ceiling (R.ranks ranking.now) grade.entry.sound.now.table (figure_at ceilings.now.at) grade.entry.number (lookahead_of grade.entry.sound.now.table k (figure_at ceilings.now.at)) }
 {
-    match lookahead(grade.sound, k, ceilings) {
-        Some(x) => ranking.no_dearer(x, grade.scaled_figure(ceilings)),
-        None => false,
-    }
+    let ceiling = grade.scaled_figure(ceilings);
+    lookahead(grade.sound, k, ceilings).is_some_and(|x| ranking.no_dearer(x, ceiling))
 }
 
-// Plan rows and ceilings have a loop each: one for both would take the test and the fault as parameters.
-
 /// Refuses the first plan row that is not one of its grade's rows.
+// A loop beside check_ceilings': one for both would take the test and the fault as parameters.
 pub(crate) fn check_plan(sound: &SoundTable, rows: &[usize; MAX_GRADES]) -> Result<(), FiguresFault>
     ensures { result_err result ≡ or_later (first_stray sound.now.table rows.now) PlanRow None }
 {
@@ -77,6 +72,7 @@ pub(crate) fn check_floors<R: Ranking>(
 }
 
 /// Refuses the first ceiling that breaks its rule at its grade's plan row.
+// A loop beside check_plan's: one for both would take the test and the fault as parameters.
 pub(crate) fn check_ceilings<R: Ranking>(
     ranking: &R,
     sound: &SoundTable,
@@ -98,12 +94,13 @@ pub(crate) fn check_ceilings<R: Ranking>(
 }
 
 /// Refuses the first rule that the figures break: plan rows before floors before ceilings, each over all grades.
-fn check_rules<R: Ranking>(
+pub fn check_figures<R: Ranking>(
     ranking: &R,
     sound: &SoundTable,
     figures: &Figures,
 ) -> Result<(), FiguresFault>
-    ensures { result_err result ≡ figures_fault (R.ranks ranking.now) sound.now.table figures.now }
+    ensures is { result_err result ≡ figures_fault (R.ranks ranking.now) sound.now.table figures.now }
+    ensures kept { Tells (R.ranks ranking.now) sound.now.table figures.now (result_err result) }
 {
     check_plan(sound, &figures.row)?;
     check_floors(ranking, sound, &figures.floor)?;
@@ -119,5 +116,5 @@ pub fn first_broken<R: Ranking>(
     ensures is { result ≡ figures_fault (R.ranks ranking.now) sound.now.table figures.now }
     ensures kept { Tells (R.ranks ranking.now) sound.now.table figures.now result }
 {
-    check_rules(ranking, sound, figures).err()
+    check_figures(ranking, sound, figures).err()
 }

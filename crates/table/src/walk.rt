@@ -1,4 +1,4 @@
-ghost use Rattle.std.specs.Prelude.{◌≡◌, ◌≤◌, length};
+ghost use Rattle.std.specs.Prelude.{◌≤◌, length};
 ghost use Rattle.std.specs.List.{All};
 ghost use Rattle.std.specs.Iterator.{YieldsFirst, item_count};
 ghost use Rattle.table.specs.Walks.{ahead, chain_from, AllIn, rows_ahead, arcs_ahead, Along};
@@ -63,7 +63,7 @@ impl Table {
     }
 
     /// The arcs of the row k, in chain order.
-    // k stays a bare number: a struct for a row, as Grade is for a grade, would serve this and two private functions.
+    // k stays a bare number: callers of lookahead have one, and a struct for a row would take its None from them.
     pub(crate) fn arcs_of(&self, k: usize) -> Walk<'_, Arc>
         requires { Within 1 self.now.rows k }
         ensures { Along arcs_ahead self.now.arcs (arcs_of self.now k) result }
