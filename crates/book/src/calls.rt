@@ -7,7 +7,7 @@ use crate::refusal::Refusal;
 use planner::{start_page, sweep_up_to};
 use rankings::{Ranking, Rounding};
 use sheet::{read, write_page};
-use table::{Page, check_table, first_broken};
+use table::{Page, check_figures, check_table};
 
 /// What a call for sweeps answers.
 #[derive(Clone, Copy, Debug, PartialEq, Eq)]
@@ -28,11 +28,8 @@ fn read_page<R: Ranking>(ranking: &R, text: &[u8]) -> Result<Page, Refusal>
     let Some(figures) = sheet.figures else {
         return Ok(start_page(ranking, &sound));
     };
-    // A broken rule, if there is one, is the error: no chain says both ends as plainly.
-    match first_broken(ranking, &sound, &figures) {
-        Some(fault) => Err(Refusal::Figures(fault)),
-        None => Ok(Page { sound, figures }),
-    }
+    check_figures(ranking, &sound, &figures)?;
+    Ok(Page { sound, figures })
 }
 
 impl<R: Ranking> Book<R> {

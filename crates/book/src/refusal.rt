@@ -1,5 +1,5 @@
 ghost use Rattle.std.specs.Prelude.{◌≡◌, Some};
-ghost use Rattle.book.specs.declared.refusal.Refusal.TheVariants.{Text, Table, Write};
+ghost use Rattle.book.specs.declared.refusal.Refusal.TheVariants.{Text, Table, Figures, Write};
 ghost use Rattle.book.specs.Refusals.{number_of, layer_number, layer_of, places_of, refusal_words, text_place, table_place, figures_places, write_place};
 
 use crate::layer::Layer;
@@ -38,6 +38,14 @@ impl From<TableFault> for Refusal {
 
     fn from(fault: TableFault) -> Refusal {
         Refusal::Table(fault)
+    }
+}
+
+impl From<FiguresFault> for Refusal {
+    ghost from_gives = { λ fault refusal. refusal ≡ Figures fault };
+
+    fn from(fault: FiguresFault) -> Refusal {
+        Refusal::Figures(fault)
     }
 }
 

@@ -20,25 +20,27 @@ returns-in_default-clause-opens g c = (
   },
 )
 
-pub returns-in-Some-first_broken-clause-opens : goal.returns-in-Some-first_broken-clause-opens
-returns-in-Some-first_broken-clause-opens g c =
+pub returns-in_err-check_figures-clause-opens : goal.returns-in_err-check_figures-clause-opens
+returns-in_err-check_figures-clause-opens g c =
     let le = g.R.Ranking.ranks c.args.ranking.now in
-    let s = c.in_ok-sheet.sheet in (
+    let s = c.in_ok-sheet.sheet in
+    let (e, is, of) = err_from_is_err_and _ c.from_residual-in_err-check_figures.ensures.1 in
+    subst (Opens le c.args.text.now) (sym (is ∙ ap Err of)) (
       s,
       record {
         reads = c.in_ok-sheet.ensures.answered;
         faultless = c.in_ok-sound.ensures.answer.0;
-        fault = subst (FiguresBreak le c.args.text.now c.in-Some-first_broken.fault s) (sym c.in-Some.is) (ap (λ t. figures_fault le t c.in-Some.figures) (sym c.in_ok-sound.ensures.answer.1) ∙ sym c.in-Some-first_broken.ensures.is);
+        fault = subst (FiguresBreak le c.args.text.now _ s) (sym c.in-Some.is) (ap (λ t. figures_fault le t c.in-Some.figures) (sym c.in_ok-sound.ensures.answer.1) ∙ sym c.in_err-check_figures.ensures.is);
       },
     )
 
-pub returns-in-None-clause-opens : goal.returns-in-None-clause-opens
-returns-in-None-clause-opens g c = (
+pub returns-clause-opens : goal.returns-clause-opens
+returns-clause-opens g c = (
   c.in_ok-sheet.sheet,
   record {
     reads = c.in_ok-sheet.ensures.answered;
     table = c.in_ok-sound.ensures.answer.1;
     faultless = c.in_ok-sound.ensures.answer.0;
-    figures = subst (FiguresOpen (g.R.Ranking.ranks c.args.ranking.now) c.args.text.now _) (sym c.in-Some.is) (refl, sym c.in-None.ensures.is);
+    figures = subst (FiguresOpen (g.R.Ranking.ranks c.args.ranking.now) c.args.text.now _) (sym c.in-Some.is) (refl, sym c.in_ok-check_figures.ensures.is);
   },
 )
