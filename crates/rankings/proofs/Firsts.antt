@@ -1,6 +1,6 @@
 -- The first cheapest, as costs are read one after another: alone at first; then it stays, or the new one takes over.
 -- Assumes nothing.
-use Rattle.std.proofs.Common.{◌≡◌, ℕ, ◌+◌, Bool, true, false, sym, subst, arith, below_more}
+use Rattle.std.proofs.Common.{◌≡◌, ℕ, ◌+◌, Bool, true, false, subst, arith, below_more}
 use Rattle.rankings.specs.Costs.{Cost}
 use Rattle.rankings.specs.Laws.{Ordered}
 use Rattle.rankings.specs.Choice.{FirstCheapest}

@@ -1,3 +1,4 @@
 pub mod Derived
 pub mod Firsts
+pub mod Machine
 pub mod Sizes

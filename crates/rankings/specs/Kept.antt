@@ -1,8 +1,8 @@
 -- The three rankings keep the laws. Assumes nothing.
-use Rattle.std.specs.Prelude.{◌≡◌, ℕ, true, false, pos, ◌≤ℤ◌, refl}
+use Rattle.std.specs.Prelude.{◌≡◌, ℕ, true, pos, ◌≤ℤ◌, refl}
 use Rattle.std.proofs.Common.{◌∙◌, arith}
 use Rattle.std.proofs.lemmas.Int.{ints}
-use Rattle.rankings.specs.Costs.{Cost, zero}
+use Rattle.rankings.specs.Costs.{Cost}
 use Rattle.rankings.specs.Laws.{Ordered, Linear, SomeDearer}
 use Rattle.rankings.specs.Models.{by_money, by_money_then_minutes, by_weight}
 use Rattle.rankings.specs.Orders.{le_z_adds, lt_z_adds, le_z_scales, lt_z_scales}
