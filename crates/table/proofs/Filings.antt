@@ -93,41 +93,41 @@ module _ (le : Cost → Cost → Bool) (t : Table) (ls : List FiledLine) where
         fault_none : first_ceiling le t (filed_rows ls) (filed_ceilings ls) ≡ None → filing_fault le t ls ≡ None
         fault_none e = low ∙ ap (λ o. or_later o Ceiling None) e
 
--- what the checks tell of the columns that the lines were copied into
-module _ (le : Cost → Cost → Bool) (t : Table) (ls : List FiledLine) (long : length ls ≡ t.grades) (rows : List ℕ) (copied : Copies (λ l. l.row) 0 ls rows) where
-  plan_passed : None ≡ or_later (first_stray t rows) PlanRow None → first_stray t (filed_rows ls) ≡ None
-  plan_passed e = sym (stray_same le t ls rows copied) ∙ (later_none (first_stray t rows) PlanRow None (sym e)).0
-
-  pub plan_refused : (e : FiguresFault) → Some e ≡ or_later (first_stray t rows) PlanRow None → filing_fault le t ls ≡ Some e
-  plan_refused e is = fault_stray le t ls e (is ∙ ap (λ o. or_later o PlanRow None) (stray_same le t ls rows copied))
-
-  module _ (plan : None ≡ or_later (first_stray t rows) PlanRow None) where
-    pub part_refused : (e : FiguresFault) → Some e ≡ or_part (lowest (outsized ls) (length ls)) None → filing_fault le t ls ≡ Some e
-    part_refused e is = fault_part le t ls (plan_passed plan) e (is ∙ ap (λ n. or_part (lowest (outsized ls) n) None) long)
-
-    module _ (ranges : None ≡ or_part (lowest (outsized ls) (length ls)) None) (floors : List Cost) (low : Copies (λ l. l.floor) zero ls floors) where
-      parts_passed : lowest (outsized ls) t.grades ≡ None
-      parts_passed = ap (lowest (outsized ls)) (sym long) ∙ (part_none (lowest (outsized ls) (length ls)) None (sym ranges)).0
-
-      pub floor_refused : (e : FiguresFault) → Some e ≡ or_later (first_floor le t floors) Floor None → filing_fault le t ls ≡ Some e
-      floor_refused e is = fault_floor le t ls (plan_passed plan) parts_passed e (is ∙ ap (λ o. or_later o Floor None) (floor_same le t ls floors low))
-
-      module _ (lows : None ≡ or_later (first_floor le t floors) Floor None) (ceilings : List Cost) (high : Copies (λ l. l.ceiling) zero ls ceilings) where
-        floors_passed : first_floor le t (filed_floors ls) ≡ None
-        floors_passed = sym (floor_same le t ls floors low) ∙ (later_none (first_floor le t floors) Floor None (sym lows)).0
-
-        pub ceiling_refused : (e : FiguresFault) → Some e ≡ or_later (first_ceiling le t rows ceilings) Ceiling None → filing_fault le t ls ≡ Some e
-        ceiling_refused e is = fault_ceiling le t ls (plan_passed plan) parts_passed floors_passed e (is ∙ ap (λ o. or_later o Ceiling None) (ceiling_same le t ls rows copied ceilings high))
-
-        pub all_passed : None ≡ or_later (first_ceiling le t rows ceilings) Ceiling None → filing_fault le t ls ≡ None
-        all_passed highs =
-            fault_none le t ls (plan_passed plan) parts_passed floors_passed
-            (sym (ceiling_same le t ls rows copied ceilings high) ∙ (later_none (first_ceiling le t rows ceilings) Ceiling None (sym highs)).0)
-
 -- a refusal that `?` hands on
-pub filed_refused : (le : Cost → Cost → Bool) (s : SoundTable) (ls : List FiledLine) (e : FiguresFault) (r : Result Page FilingFault) → IsErrAnd r (λ x. x ≡ fault.Figures e) → length ls ≡ s.table.grades → filing_fault le s.table ls ≡ Some e → Filed le s ls r
+filed_refused : (le : Cost → Cost → Bool) (s : SoundTable) (ls : List FiledLine) (e : FiguresFault) (r : Result Page FilingFault) → IsErrAnd r (λ x. x ≡ fault.Figures e) → length ls ≡ s.table.grades → filing_fault le s.table ls ≡ Some e → Filed le s ls r
 filed_refused le s ls e (Ok p) is long f = absurd is
 filed_refused le s ls e (Err x) is long f = subst (λ x. Filed le s ls (Err x)) (sym is) (long, f)
+
+-- what the checks tell of the columns that the lines were copied into
+module _ (le : Cost → Cost → Bool) (s : SoundTable) (ls : List FiledLine) (long : length ls ≡ s.table.grades) (rows : List ℕ) (copied : Copies (λ l. l.row) 0 ls rows) where
+  plan_passed : None ≡ or_later (first_stray s.table rows) PlanRow None → first_stray s.table (filed_rows ls) ≡ None
+  plan_passed e = sym (stray_same le s.table ls rows copied) ∙ (later_none (first_stray s.table rows) PlanRow None (sym e)).0
+
+  pub plan_refused : (e : FiguresFault) → Some e ≡ or_later (first_stray s.table rows) PlanRow None → (r : Result Page FilingFault) → IsErrAnd r (λ x. x ≡ fault.Figures e) → Filed le s ls r
+  plan_refused e is r by = filed_refused le s ls e r by long (fault_stray le s.table ls e (is ∙ ap (λ o. or_later o PlanRow None) (stray_same le s.table ls rows copied)))
+
+  module _ (plan : None ≡ or_later (first_stray s.table rows) PlanRow None) where
+    pub part_refused : (e : FiguresFault) → Some e ≡ or_part (lowest (outsized ls) (length ls)) None → (r : Result Page FilingFault) → IsErrAnd r (λ x. x ≡ fault.Figures e) → Filed le s ls r
+    part_refused e is r by = filed_refused le s ls e r by long (fault_part le s.table ls (plan_passed plan) e (is ∙ ap (λ n. or_part (lowest (outsized ls) n) None) long))
+
+    module _ (ranges : None ≡ or_part (lowest (outsized ls) (length ls)) None) (floors : List Cost) (low : Copies (λ l. l.floor) zero ls floors) where
+      parts_passed : lowest (outsized ls) s.table.grades ≡ None
+      parts_passed = ap (lowest (outsized ls)) (sym long) ∙ (part_none (lowest (outsized ls) (length ls)) None (sym ranges)).0
+
+      pub floor_refused : (e : FiguresFault) → Some e ≡ or_later (first_floor le s.table floors) Floor None → (r : Result Page FilingFault) → IsErrAnd r (λ x. x ≡ fault.Figures e) → Filed le s ls r
+      floor_refused e is r by = filed_refused le s ls e r by long (fault_floor le s.table ls (plan_passed plan) parts_passed e (is ∙ ap (λ o. or_later o Floor None) (floor_same le s.table ls floors low)))
+
+      module _ (lows : None ≡ or_later (first_floor le s.table floors) Floor None) (ceilings : List Cost) (high : Copies (λ l. l.ceiling) zero ls ceilings) where
+        floors_passed : first_floor le s.table (filed_floors ls) ≡ None
+        floors_passed = sym (floor_same le s.table ls floors low) ∙ (later_none (first_floor le s.table floors) Floor None (sym lows)).0
+
+        pub ceiling_refused : (e : FiguresFault) → Some e ≡ or_later (first_ceiling le s.table rows ceilings) Ceiling None → (r : Result Page FilingFault) → IsErrAnd r (λ x. x ≡ fault.Figures e) → Filed le s ls r
+        ceiling_refused e is r by = filed_refused le s ls e r by long (fault_ceiling le s.table ls (plan_passed plan) parts_passed floors_passed e (is ∙ ap (λ o. or_later o Ceiling None) (ceiling_same le s.table ls rows copied ceilings high)))
+
+        pub all_passed : None ≡ or_later (first_ceiling le s.table rows ceilings) Ceiling None → filing_fault le s.table ls ≡ None
+        all_passed highs =
+            fault_none le s.table ls (plan_passed plan) parts_passed floors_passed
+            (sym (ceiling_same le s.table ls rows copied ceilings high) ∙ (later_none (first_ceiling le s.table rows ceilings) Ceiling None (sym highs)).0)
 
 -- the test of a figure's parts is that they are in range
 figure_test : (w : Cost) → is_figure w ≡ true → FigureIn w

@@ -3,30 +3,20 @@ use Rattle.table.specs.declared.fault.FiguresFault.TheVariants.{PlanRow}
 use Rattle.table.specs.Faults.{lowest}
 use Rattle.table.specs.Filing.{outsized}
 use Rattle.table.specs.Rules.{first_stray}
-use Rattle.table.proofs.Filings.{plan_refused, part_refused, floor_refused, ceiling_refused, all_passed, part_none, none_outsized, copied_in, planned_in, filed_refused}
+use Rattle.table.proofs.Filings.{plan_refused, part_refused, floor_refused, ceiling_refused, all_passed, part_none, none_outsized, copied_in, planned_in}
 use Rattle.table.proofs.Keeping.{later_none}
 use Rattle.table.proofs.Soundness.{sound_table}
 use Rattle.table.proofs.filing.filed_page.Goals as goal
 
 pub returns-in_err-check_plan : goal.returns-in_err-check_plan
 returns-in_err-check_plan g c =
-    let le = g.R.Ranking.ranks c.args.ranking.now in
-    let s = c.args.sound.now in
-    let ls = c.args.lines.now in
-    let e = c.in_err-check_plan.field-0.0 in
-    let long : length ls ≡ s.table.grades = omega arith in
-    filed_refused le s ls e c.from_residual.result c.from_residual.ensures.1 long
-    (plan_refused le s.table ls long c.columns.result.0 c.columns.ensures.rows e c.in_err-check_plan.ensures)
+    plan_refused (g.R.Ranking.ranks c.args.ranking.now) c.args.sound.now c.args.lines.now (omega arith) c.columns.result.0 c.columns.ensures.rows c.in_err-check_plan.field-0.0 c.in_err-check_plan.ensures
+    c.from_residual.result c.from_residual.ensures.1
 
 pub returns-in_err-check_ranges : goal.returns-in_err-check_ranges
 returns-in_err-check_ranges g c =
-    let le = g.R.Ranking.ranks c.args.ranking.now in
-    let s = c.args.sound.now in
-    let ls = c.args.lines.now in
-    let e = c.in_err-check_ranges.field-0.0 in
-    let long : length ls ≡ s.table.grades = omega arith in
-    filed_refused le s ls e c.from_residual-in_err-check_ranges.result c.from_residual-in_err-check_ranges.ensures.1 long
-    (part_refused le s.table ls long c.columns.result.0 c.columns.ensures.rows c.in_ok-check_plan.ensures e c.in_err-check_ranges.ensures)
+    part_refused (g.R.Ranking.ranks c.args.ranking.now) c.args.sound.now c.args.lines.now (omega arith) c.columns.result.0 c.columns.ensures.rows c.in_ok-check_plan.ensures
+    c.in_err-check_ranges.field-0.0 c.in_err-check_ranges.ensures c.from_residual-in_err-check_ranges.result c.from_residual-in_err-check_ranges.ensures.1
 
 pub invariant_of-floor : goal.invariant_of-floor
 invariant_of-floor g c =
@@ -36,13 +26,8 @@ invariant_of-floor g c =
 
 pub returns-in_err-check_floors : goal.returns-in_err-check_floors
 returns-in_err-check_floors g c =
-    let le = g.R.Ranking.ranks c.args.ranking.now in
-    let s = c.args.sound.now in
-    let ls = c.args.lines.now in
-    let e = c.in_err-check_floors.field-0.0 in
-    let long : length ls ≡ s.table.grades = omega arith in
-    filed_refused le s ls e c.from_residual-in_err-check_floors.result c.from_residual-in_err-check_floors.ensures.1 long
-    (floor_refused le s.table ls long c.columns.result.0 c.columns.ensures.rows c.in_ok-check_plan.ensures c.in_ok-check_ranges.ensures c.columns.result.1 c.columns.ensures.floors e c.in_err-check_floors.ensures)
+    floor_refused (g.R.Ranking.ranks c.args.ranking.now) c.args.sound.now c.args.lines.now (omega arith) c.columns.result.0 c.columns.ensures.rows c.in_ok-check_plan.ensures c.in_ok-check_ranges.ensures c.columns.result.1 c.columns.ensures.floors
+    c.in_err-check_floors.field-0.0 c.in_err-check_floors.ensures c.from_residual-in_err-check_floors.result c.from_residual-in_err-check_floors.ensures.1
 
 pub invariant_of-ceiling : goal.invariant_of-ceiling
 invariant_of-ceiling g c =
@@ -52,14 +37,8 @@ invariant_of-ceiling g c =
 
 pub returns-in_err-check_ceilings : goal.returns-in_err-check_ceilings
 returns-in_err-check_ceilings g c =
-    let le = g.R.Ranking.ranks c.args.ranking.now in
-    let s = c.args.sound.now in
-    let ls = c.args.lines.now in
-    let e = c.in_err-check_ceilings.field-0.0 in
-    let long : length ls ≡ s.table.grades = omega arith in
-    filed_refused le s ls e c.from_residual-in_err-check_ceilings.result c.from_residual-in_err-check_ceilings.ensures.1 long
-    (ceiling_refused le s.table ls long c.columns.result.0 c.columns.ensures.rows c.in_ok-check_plan.ensures c.in_ok-check_ranges.ensures c.columns.result.1 c.columns.ensures.floors c.in_ok-check_floors.ensures
-    c.columns.result.2 c.columns.ensures.ceilings e c.in_err-check_ceilings.ensures)
+    ceiling_refused (g.R.Ranking.ranks c.args.ranking.now) c.args.sound.now c.args.lines.now (omega arith) c.columns.result.0 c.columns.ensures.rows c.in_ok-check_plan.ensures c.in_ok-check_ranges.ensures c.columns.result.1 c.columns.ensures.floors c.in_ok-check_floors.ensures
+    c.columns.result.2 c.columns.ensures.ceilings c.in_err-check_ceilings.field-0.0 c.in_err-check_ceilings.ensures c.from_residual-in_err-check_ceilings.result c.from_residual-in_err-check_ceilings.ensures.1
 
 pub invariant_of-result : goal.invariant_of-result
 invariant_of-result g c =
@@ -74,7 +53,7 @@ returns g c =
     let copied = c.columns.ensures in
     let long : length ls ≡ s.table.grades = omega arith in (
       long,
-      all_passed (g.R.Ranking.ranks c.args.ranking.now) s.table ls long c.columns.result.0 copied.rows c.in_ok-check_plan.ensures c.in_ok-check_ranges.ensures c.columns.result.1 copied.floors c.in_ok-check_floors.ensures
+      all_passed (g.R.Ranking.ranks c.args.ranking.now) s ls long c.columns.result.0 copied.rows c.in_ok-check_plan.ensures c.in_ok-check_ranges.ensures c.columns.result.1 copied.floors c.in_ok-check_floors.ensures
           c.columns.result.2 copied.ceilings c.in_ok-check_ceilings.ensures,
       refl,
       record { rows = λ j. copied.rows.1 (j - 1); floors = λ j. copied.floors.1 (j - 1); ceilings = λ j. copied.ceilings.1 (j - 1) },
