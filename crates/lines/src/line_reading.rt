@@ -138,6 +138,7 @@ pub fn read_line(bytes: &[u8]) -> Option<(Line<'_>, &[u8])>
             Some((Line::Figure(figure), rest))
         }
         [b'e', b'n', b'd', b'\n', rest @ ..] => Some((Line::End, rest)),
+        // Byte patterns choose the kind, a form that the project keeps: what none of them matches is no line.
         _ => None,
     }
 }

@@ -1,4 +1,6 @@
 //! Writing one line, each kind by a function of its own as in reading.
+//!
+//! `out` and `at` go along as two, as in `text`, whose functions take them.
 
 ghost use Rattle.text.specs.Fields.{byte_of};
 ghost use Rattle.text.specs.Writing.{Writes};

@@ -1,6 +1,7 @@
 -- What the readers of a sheet's lines promise. Assumes nothing.
 use Rattle.std.specs.Prelude.{◌≡◌, ℕ, ◌+◌, ◌-◌, ◌<◌, ◌≤◌, ◌⊎◌, List, ◌++◌, length, get_or, drop, ℤ, pos, Some, None, Ok, Err, Option, Result, ◌≢◌}
 use Rattle.table.specs.declared.figures.Figures.{Figures}
+use Rattle.table.specs.declared.filing.FiledLine.{FiledLine}
 use Rattle.table.specs.declared.rows.Arc.{Arc}
 use Rattle.table.specs.declared.rows.Row.{Row}
 use Rattle.table.specs.Ranges.{Within, FirstsIn}
@@ -10,7 +11,6 @@ use Rattle.lines.specs.declared.records.Line.{Line}
 use Rattle.lines.specs.Lines.{Entry, GradeOf, RowOf, ArcOf, FigureOf, line_text, Good}
 use Rattle.lines.specs.Places.{label_of}
 use Rattle.sheet.specs.declared.labels.Span.{Span}
-use Rattle.sheet.specs.declared.figure_reading.Figure.{Figure}
 use Rattle.sheet.specs.declared.header.Header.{Header}
 use Rattle.sheet.specs.Due.{Counts, Slot, figure, Said, entry, Ranged, group}
 use Rattle.sheet.specs.Halts.{counts_of}
@@ -48,12 +48,8 @@ row_said label i r = ((pos (i + 1), (pos r.next, (r.cost.0, r.cost.1))), (pos r.
 abbrev pub arc_said : List ℕ → ℕ → Arc → ArcOf
 arc_said label i a = (pos (i + 1), (pos a.next, (pos a.destination, pos a.weight)))
 
-abbrev pub figure_said : List ℕ → ℕ → Figure → FigureOf
+abbrev pub figure_said : List ℕ → ℕ → FiledLine → FigureOf
 figure_said label i f = (pos (i + 1), (pos f.row, (f.floor.0, (f.floor.1, (f.ceiling.0, f.ceiling.1)))))
-
--- what stands for the figures beyond the grades
-abbrev pub figure0 : Figure
-figure0 = record { row = 0; floor = (pos 0, pos 0); ceiling = (pos 0, pos 0) }
 
 -- where the label lies of a line that ends before the place next
 abbrev pub span_of : Line → ℕ → Span

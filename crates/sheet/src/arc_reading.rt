@@ -15,6 +15,7 @@ use table::Arc;
 pub(crate) struct Arcs;
 
 /// The arc that the line of the arc `i + 1` says, where its numbers are in range.
+// `as` only widens: no `From` joins `u32` and `usize`.
 fn arc_of(line: &ArcLine, due: &Due<'_>) -> Option<Arc>
     ensures { RangedOf (counts_of due.now.header.now) (arc_due due.now.i) (arc_said [] due.now.i) (arc_of line.now) result }
 {
@@ -23,7 +24,8 @@ fn arc_of(line: &ArcLine, due: &Due<'_>) -> Option<Arc>
     }
     let next = count(line.next, 0, due.header.arcs)?;
     let destination = count(line.destination, 1, due.header.grades)?;
-    let weight = count(line.weight, 1, due.header.total as usize)? as u32;
+    let weight = count(line.weight, 1, due.header.total as usize)?;
+    let weight = u32::try_from(weight).ok()?;
     Some(Arc {
         next,
         destination,

@@ -1,29 +1,22 @@
 ghost use Rattle.std.specs.Prelude.{◌<◌, ◌≤◌, [], length, drop, Ok, Err};
+ghost use Rattle.table.specs.Filing.{no_line};
 ghost use Rattle.lines.specs.Lines.{figure_of};
 ghost use Rattle.sheet.specs.Due.{figure as figure_due};
 ghost use Rattle.sheet.specs.Halts.{counts_of, Halted};
-ghost use Rattle.sheet.specs.Read.{RangedOf, figure0, figure_said, FigurePartRead};
+ghost use Rattle.sheet.specs.Read.{RangedOf, figure_said, FigurePartRead};
 
 use crate::group::{Due, Group, read_group};
 use crate::header::Header;
 use crate::ranges::{cost, count};
 use crate::table_lines::figure_count;
 use lines::{FigureLine, Line, TextFault};
-use table::{Column, Figures, MAX_FIGURE_PART, MAX_GRADES};
-
-/// A grade's plan row, floor and ceiling.
-#[derive(Clone, Copy)]
-pub(crate) struct Figure {
-    row: usize,
-    floor: (i64, i64),
-    ceiling: (i64, i64),
-}
+use table::{Column, Figures, FiledLine, MAX_FIGURE_PART, MAX_GRADES};
 
 /// The figures of the grades.
 struct FigureLines;
 
 /// The figures that the line of the grade `i + 1` says, where its numbers are in range.
-fn figure_of(line: &FigureLine, due: &Due<'_>) -> Option<Figure>
+fn figure_of(line: &FigureLine, due: &Due<'_>) -> Option<FiledLine>
     ensures { RangedOf (counts_of due.now.header.now) (figure_due due.now.i) (figure_said [] due.now.i) (figure_of line.now) result }
 {
     if line.grade != due.number() {
@@ -32,7 +25,7 @@ fn figure_of(line: &FigureLine, due: &Due<'_>) -> Option<Figure>
     let row = count(line.row, 1, due.header.rows)?;
     let floor = cost(line.floor_first, line.floor_second, MAX_FIGURE_PART)?;
     let ceiling = cost(line.ceiling_first, line.ceiling_second, MAX_FIGURE_PART)?;
-    Some(Figure {
+    Some(FiledLine {
         row,
         floor,
         ceiling,
@@ -40,15 +33,15 @@ fn figure_of(line: &FigureLine, due: &Due<'_>) -> Option<Figure>
 }
 
 impl Group for FigureLines {
-    type Kept = Figure;
+    type Kept = FiledLine;
 
-    const EMPTY: Figure = Figure {
+    const EMPTY: FiledLine = FiledLine {
         row: 0,
         floor: (0, 0),
         ceiling: (0, 0),
     };
 
-    ghost EMPTY = { figure0 };
+    ghost EMPTY = { no_line };
 
     ghost count = { λ c. c.figures };
 
@@ -60,7 +53,7 @@ impl Group for FigureLines {
         figure_count(header.figured, header.grades)
     }
 
-    fn keep(text: &Line<'_>, due: &Due<'_>) -> Result<Figure, TextFault> {
+    fn keep(text: &Line<'_>, due: &Due<'_>) -> Result<FiledLine, TextFault> {
         let Line::Figure(figure) = text else {
             return Err(due.missing());
         };
@@ -68,8 +61,8 @@ impl Group for FigureLines {
     }
 }
 
-/// The figure lines, from the place `at` on and the first of them the sheet's line `line`, where the header says that there
-/// are any; and the place after them.
+/// The figure lines, from the place `at` on and the first of them the sheet's line `line`, where the header says that
+/// there are any; and the place after them.
 pub(crate) fn read_figures(
     sheet: &[u8],
     at: usize,

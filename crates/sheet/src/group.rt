@@ -23,6 +23,7 @@ pub(crate) struct Due<'a> {
 
 impl Due<'_> {
     /// The number that the line has in its group.
+    // `as` loses nothing, as the check proves; no `From` joins the types, and `try_from` would add a refusal.
     pub(crate) fn number(&self) -> i64
         ensures { result ≡ pos (self.now.i + 1) }
     {

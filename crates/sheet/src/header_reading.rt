@@ -10,16 +10,17 @@ use lines::{HeaderLine, Line, TextFault, line_at};
 use table::{MAX_ARCS, MAX_DENOMINATOR, MAX_FINENESS, MAX_GRADES, MAX_ROWS, MAX_TOTAL};
 
 /// The line's numbers, where all of them are in range.
+// `as` only widens: no `From` joins `u32` and `usize`.
 fn header_of(line: &HeaderLine) -> Option<Header>
     ensures { elim result [ Some h ↦ header_of line.now ≡ header_said (counts_of h) | None ↦ (c : Counts) → Counted c → header_of line.now ≢ header_said c ] }
 {
     let grades = count(line.grades, 1, MAX_GRADES)?;
     let rows = count(line.rows, 1, MAX_ROWS)?;
     let arcs = count(line.arcs, 1, MAX_ARCS)?;
-    let total = count(line.total, 1, MAX_TOTAL as usize)? as u32;
-    let denominator = count(line.denominator, 1, MAX_DENOMINATOR as usize)? as u32;
-    let numerator = count(line.numerator, 0, denominator as usize - 1)? as u32;
-    let fineness = count(line.fineness, 1, MAX_FINENESS as usize)? as u32;
+    let total = u32::try_from(count(line.total, 1, MAX_TOTAL as usize)?).ok()?;
+    let denominator = u32::try_from(count(line.denominator, 1, MAX_DENOMINATOR as usize)?).ok()?;
+    let numerator = u32::try_from(count(line.numerator, 0, denominator as usize - 1)?).ok()?;
+    let fineness = u32::try_from(count(line.fineness, 1, MAX_FINENESS as usize)?).ok()?;
     let figures = count(line.figures, 0, grades)?;
     if figures != 0 && figures != grades {
         return None;

@@ -1,6 +1,7 @@
 use table::{MAX_GRADES, MAX_ROWS};
 
 /// Where a label lies in its sheet: from the byte `start` up to the byte before `end`.
+// Public, its two ends named, and copied: `Range` is not `Copy`.
 #[derive(Clone, Copy)]
 pub struct Span {
     pub start: usize,

@@ -7,6 +7,7 @@ use table::Page;
 
 /// Writes a page as a sheet, with its figures or without, with the labels of the sheet `old`, and returns the sheet's
 /// length. What `out` holds beyond that stays.
+// `figured` is the public call's own: the page has its figures in any case, and the caller says what is wanted.
 pub fn write_page(
     out: &mut [u8],
     page: &Page,

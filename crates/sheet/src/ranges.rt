@@ -13,9 +13,5 @@ pub(crate) fn cost(first: i64, second: i64, most: i64) -> Option<(i64, i64)>
     ensures { elim result [ Some c ↦ (c ≡ (first, second)) × (unsigned_abs first ≤ unsigned_abs most) × (unsigned_abs second ≤ unsigned_abs most) | None ↦ unsigned_abs first ≤ unsigned_abs most → unsigned_abs second ≤ unsigned_abs most → ⊥ ] }
 {
     let near = |z: i64| z.unsigned_abs() <= most.unsigned_abs();
-    if near(first) && near(second) {
-        Some((first, second))
-    } else {
-        None
-    }
+    (near(first) && near(second)).then_some((first, second))
 }

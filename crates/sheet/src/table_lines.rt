@@ -1,7 +1,7 @@
 //! The lines that say what a table, its figures and its labels say.
 //!
 //! `as` loses nothing here, as the check proves; no `From` joins these types, and `try_from` would add a refusal that
-//! never comes. So it is where counts are read.
+//! never comes.
 
 ghost use Rattle.std.specs.Prelude.{◌≡◌, ◌<◌, ◌≤◌, length, slice_index, cond};
 ghost use Rattle.lines.specs.Lines.{entry_of};
@@ -98,6 +98,7 @@ pub(crate) fn figure_line(figures: &Figures, i: usize) -> Line<'static>
 }
 
 /// How many figure lines there are, one for each grade or none.
+// `figured` comes from the public call or from the header: there is no figure beside it to put in an `Option`.
 pub(crate) fn figure_count(figured: bool, grades: usize) -> usize
     ensures { result ≡ cond figured grades 0 }
 {

@@ -1,9 +1,11 @@
 -- Bytes of a kind, up to the byte that ends them.
-use Rattle.std.proofs.Common.{◌≡◌, ℕ, suc, ◌+◌, ◌-◌, ◌<◌, ◌≤◌, List, [], ◌∷◌, ◌++◌, length, get_or, take, drop, Some, None, sym, refl, ap, ◌∙◌, subst, append_assoc, arith}
+use Rattle.std.proofs.Common.{◌≡◌, ℕ, suc, ◌+◌, ◌-◌, ◌<◌, ◌≤◌, List, [], ◌∷◌, ◌++◌, length, get_or, take, drop, Bool, true, false, Some, None, sym, refl, ap, ◌∙◌, subst, append_assoc, arith}
+use Rattle.std.specs.Bool.{then_some}
+use Rattle.std.specs.Borrow.{Bor}
 use Rattle.std.specs.Int.{IsInRange}
 use Rattle.std.proofs.lemmas.List.{length-take-le, length-drop, get_or-take, get_or-drop, take-append-drop}
 use Rattle.std.proofs.lemmas.Slice.{first_rest}
-use Rattle.text.specs.Reading.{Reads, Alone}
+use Rattle.text.specs.Reading.{Reads, Alone, seen}
 use Rattle.text.specs.Fields.{Filled, ended, Label, label_text}
 use Rattle.text.proofs.Reading.{refused, returned}
 
@@ -46,14 +48,14 @@ module _ (low high limit end : ℕ) (out : IsInRange low high end → ⊥) where
         let less : k < n = omega (arith, long) in
         subst (IsInRange low high) (sym (ap (λ l. get_or l k 0) front-is ∙ get_or-take n bs k 0 less)) (all k less)
 
-    pub run_some : 0 < n → n ≤ limit → get_or back 0 0 ≡ end → Reads (Filled low high limit) (ended end) bs (Some (front, take (length back - 1) (drop 1 back)))
+    run_some : 0 < n → n ≤ limit → get_or back 0 0 ≡ end → Reads (Filled low high limit) (ended end) bs (Some (front, take (length back - 1) (drop 1 back)))
     unfolding stop rest
     run_some some most last =
         let good : Filled low high limit front = record { some = omega (arith, long); most = omega (arith, long); all = each } in
         let text : bs ≡ ended end front ++ rest = cut ∙ ap (λ b. front ++ b ∷ rest) last ∙ sym (append_assoc front (end ∷ []) rest) in
         returned front rest good text (λ xs more g e. filled_alone xs front more rest g good (sym e ∙ text))
 
-    pub run_other : (low ≤ get_or bs n 0 → high < get_or bs n 0) → (0 < n → n ≤ limit → get_or back 0 0 ≡ end → ⊥) → Reads (Filled low high limit) (ended end) bs None
+    run_other : (low ≤ get_or bs n 0 → high < get_or bs n 0) → (0 < n → n ≤ limit → get_or back 0 0 ≡ end → ⊥) → Reads (Filled low high limit) (ended end) bs None
     unfolding stop rest
     run_other stops other =
         let same : n + 0 ≡ n = omega arith in
@@ -62,6 +64,11 @@ module _ (low high limit end : ℕ) (out : IsInRange low high end → ⊥) where
         refused (λ xs more g e.
         let same = cut_once low high front xs stop end rest more each g.all outside out (sym cut ∙ e ∙ append_assoc xs (end ∷ []) more) in
         other (omega (arith, long, ap length same.0, g.some)) (omega (arith, long, ap length same.0, g.most)) same.1)
+
+    -- both, by whether the byte ends as many of them as there may be
+    pub run_if : (low ≤ get_or bs n 0 → high < get_or bs n 0) → (parts : Bor (List ℕ) × Bor (List ℕ)) → parts.0.now ≡ front → parts.1.now ≡ take (length back - 1) (drop 1 back) → (ends : Bool) → (ends ≡ true → (0 < n) × (n ≤ limit) × (get_or back 0 0 ≡ end)) → (ends ≡ false → 0 < n → n ≤ limit → get_or back 0 0 ≡ end → ⊥) → Reads (Filled low high limit) (ended end) bs (seen (λ x. x.now) (then_some ends parts))
+    run_if stops parts one two true met unmet = let p = met refl in subst (Reads (Filled low high limit) (ended end) bs) (λ i. Some (sym one i, sym two i)) (run_some p.0 p.1 p.2)
+    run_if stops parts one two false met unmet = run_other stops (unmet refl)
 
 -- the text of a label is the front of no other's
 pub label_alone : Alone Label label_text

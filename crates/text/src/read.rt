@@ -7,20 +7,17 @@ ghost use Rattle.text.specs.Fields.{byte_of, Filled, ended, Short, Small, natura
 use crate::end::End;
 use crate::limits::{DIGITS, LABEL, LABEL_FIRST, LABEL_LAST};
 
-/// The bytes from `low` to `high` at the front, 1 to `most` of them and then the byte `end`, and what follows that byte.
+/// The bytes from `low` to `high` at the front, 1 to `most` of them and then the byte `end`, and what follows that
+/// byte.
 fn run(bytes: &[u8], low: u8, high: u8, most: usize, end: u8) -> Option<(&[u8], &[u8])>
     requires { IsInRange low high end → ⊥ }
     ensures { Reads (Filled low high most) (ended end) bytes.now (seen (λ x. x.now) result) }
 {
-    let n = bytes.iter().position(|b| *b < low || high < *b)?;
+    let n = bytes.iter().position(|b| !(low..=high).contains(b))?;
     let (front, [stop, rest @ ..]) = bytes.split_at(n) else {
         return None;
     };
-    if *stop == end && (1..=most).contains(&n) {
-        Some((front, rest))
-    } else {
-        None
-    }
+    (*stop == end && (1..=most).contains(&n)).then_some((front, rest))
 }
 
 /// The number at the front, of 1 to 11 digits with no leading zero, and what follows its end.

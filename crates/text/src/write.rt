@@ -1,7 +1,7 @@
 //! Writing: into lent bytes from a place on. The answer is the place after, or `None` where there is no room.
 //!
-//! `out` and `at` go along as two: a struct of both needs a clause on the reference's ghost name in each method, which is no
-//! plainer.
+//! `out` and `at` go along as two: a struct of both needs a clause on the reference's ghost name in each method, which is
+//! no plainer.
 
 ghost use Rattle.std.specs.Fmt.{signed_decimal};
 ghost use Rattle.text.specs.Fields.{byte_of, ended, natural_text, number_text, label_text};
