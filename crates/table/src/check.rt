@@ -28,7 +28,7 @@ pub fn check_table(table: &Table) -> Result<SoundTable, TableFault>
     ensures sound { elim result [ Ok _ ↦ Sound table.now | Err _ ↦ (Sound table.now → ⊥) ] }
     ensures walks { elim result [ Ok _ ↦ Walked table.now | Err _ ↦ Unit {0} ] }
 {
-    // SoundTable's ghost field needs the fact of the None arm.
+    // SoundTable's ghost field needs the fact of the None arm, which no closure of a chain knows.
     match first_fault(table) {
         Some(fault) => Err(fault),
         None => {
