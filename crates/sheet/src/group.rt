@@ -121,7 +121,8 @@ pub(crate) fn read_group<G: Group, const N: usize>(
     let mut kept = [G::EMPTY; N];
     let mut label = [Span { start: 0, end: 0 }; N];
     let mut at = at;
-    // Two arrays are filled side by side by the line's number: a zip of both is no plainer.
+    // Tried: one local array of pairs, filled by `iter_mut().enumerate()`. `[pair; N]` of a generic pair is not covered
+    // yet, and with `array::from_fn` it stayed open that N pairs have a size below 2^63.
     for i in 0..G::count(header) {
         let due = Due {
             header,

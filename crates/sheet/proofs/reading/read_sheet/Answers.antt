@@ -1,9 +1,10 @@
 use Rattle.std.proofs.Common.{◌≡◌, ℕ, ◌+◌, List, ◌++◌, drop, ap, ◌∙◌, subst, arith}
 use Rattle.table.specs.Ranges.{row0, arc0}
 use Rattle.lines.specs.Lines.{line_text, end}
-use Rattle.sheet.specs.Due.{grade, row, arc}
+use Rattle.sheet.specs.Due.{grade, row, arc, group}
 use Rattle.sheet.specs.Halts.{counts_of, EndFault}
 use Rattle.sheet.specs.Read.{grade_said, row_said, arc_said}
+use Rattle.sheet.specs.Refused.{Through}
 use Rattle.sheet.specs.Render.{counts_entry, figures_of, grades_text, rows_text, arcs_text, figure_part, labels_of, render}
 use Rattle.sheet.proofs.Parts.{six}
 use Rattle.sheet.proofs.GroupSteps.{group_through}
@@ -11,6 +12,17 @@ use Rattle.sheet.proofs.Halting.{err_is}
 use Rattle.sheet.proofs.Kept.{firsts_in, rows_in, arcs_in}
 use Rattle.sheet.proofs.Refusing.{grades_stop, rows_stop, arcs_stop, figures_stop, end_stop}
 use Rattle.sheet.proofs.reading.read_sheet.Goals as goal
+use Rattle.sheet.proofs.reading.read_sheet.Goals.{In_ok-first_row, In_ok-row, In_ok-arc}
+
+-- the lines of each group that is there
+grades_there : (c : In_ok-first_row) → let h = c.in_ok-header.header in Through (counts_of h) (group grade h.grades) (drop c.in_ok-header.at c.args.sheet.now) (drop c.in_ok-first_row.at c.args.sheet.now)
+grades_there c = group_through _ grade grade_said c.args.sheet.now 0 _ _ _ _ _ c.in_ok-first_row.ensures
+
+rows_there : (c : In_ok-row) → let h = c.in_ok-header.header in Through (counts_of h) (group row h.rows) (drop c.in_ok-first_row.at c.args.sheet.now) (drop c.in_ok-row.at c.args.sheet.now)
+rows_there c = group_through _ row row_said c.args.sheet.now row0 _ _ _ _ _ c.in_ok-row.ensures
+
+arcs_there : (c : In_ok-arc) → let h = c.in_ok-header.header in Through (counts_of h) (group arc h.arcs) (drop c.in_ok-row.at c.args.sheet.now) (drop c.in_ok-arc.at c.args.sheet.now)
+arcs_there c = group_through _ arc arc_said c.args.sheet.now arc0 _ _ _ _ _ c.in_ok-arc.ensures
 
 pub invariant_of-table-clause-firsts : goal.invariant_of-table-clause-firsts
 invariant_of-table-clause-firsts c = firsts_in _ _ _ _ _ _ c.in_ok-first_row.first_row c.in_ok-first_row.ensures
@@ -54,36 +66,31 @@ returns-in_err-first_row c =
 
 pub returns-in_err-row : goal.returns-in_err-row
 returns-in_err-row c =
+    let at = goal.at.returns-in_err-row c in
     let header = c.in_ok-header in
-    let k = counts_of header.header in
-    let sheet = c.args.sheet.now in
     rw (err_is _ _ c.from_residual-in_err-row.ensures.1)
-    (rows_stop header.header sheet _ (omega arith) _ header.ensures.0 _ (group_through k grade grade_said sheet 0 _ _ _ _ _ c.in_ok-first_row.ensures) c.in_err-row.ensures)
+    (rows_stop header.header c.args.sheet.now _ (omega arith) _ header.ensures.0 _ (grades_there at.In_ok-first_row) c.in_err-row.ensures)
 
 pub returns-in_err-arc : goal.returns-in_err-arc
 returns-in_err-arc c =
+    let at = goal.at.returns-in_err-arc c in
     let header = c.in_ok-header in
-    let k = counts_of header.header in
-    let sheet = c.args.sheet.now in
     rw (err_is _ _ c.from_residual-in_err-arc.ensures.1)
-    (arcs_stop header.header sheet _ (omega arith) _ header.ensures.0 _ (group_through k grade grade_said sheet 0 _ _ _ _ _ c.in_ok-first_row.ensures) _ (group_through k row row_said sheet row0 _ _ _ _ _ c.in_ok-row.ensures) c.in_err-arc.ensures)
+    (arcs_stop header.header c.args.sheet.now _ (omega arith) _ header.ensures.0 _ (grades_there at.In_ok-first_row) _ (rows_there at.In_ok-row) c.in_err-arc.ensures)
 
 pub returns-in_err-figures : goal.returns-in_err-figures
 returns-in_err-figures c =
+    let at = goal.at.returns-in_err-figures c in
     let header = c.in_ok-header in
-    let k = counts_of header.header in
-    let sheet = c.args.sheet.now in
     rw (err_is _ _ c.from_residual-in_err-figures.ensures.1)
-    (figures_stop header.header sheet _ (omega arith) _ header.ensures.0 _ (group_through k grade grade_said sheet 0 _ _ _ _ _ c.in_ok-first_row.ensures) _ (group_through k row row_said sheet row0 _ _ _ _ _ c.in_ok-row.ensures) _ (group_through k arc arc_said sheet arc0 _ _ _ _ _ c.in_ok-arc.ensures) c.in_err-figures.ensures)
+    (figures_stop header.header c.args.sheet.now _ (omega arith) _ header.ensures.0 _ (grades_there at.In_ok-first_row) _ (rows_there at.In_ok-row) _ (arcs_there at.In_ok-arc) c.in_err-figures.ensures)
 
 pub returns-in_err-read_end : goal.returns-in_err-read_end
 returns-in_err-read_end c =
+    let at = goal.at.returns-in_err-read_end c in
     let header = c.in_ok-header in
     let h = header.header in
-    let k = counts_of h in
-    let sheet = c.args.sheet.now in
-    let figures = c.in_ok-figures in
-    let count : c.figure_count.result ≡ k.figures = c.figure_count.ensures in
+    let count : c.figure_count.result ≡ (counts_of h).figures = c.figure_count.ensures in
     rw (err_is _ _ c.from_residual-in_err-read_end.ensures.1)
-    (end_stop header.header sheet _ (omega arith) _ header.ensures.0 _ (group_through k grade grade_said sheet 0 _ _ _ _ _ c.in_ok-first_row.ensures) _ (group_through k row row_said sheet row0 _ _ _ _ _ c.in_ok-row.ensures) _ (group_through k arc arc_said sheet arc0 _ _ _ _ _ c.in_ok-arc.ensures) _ figures.ensures.through
-    (subst (λ n. EndFault (2 + h.grades + h.rows + h.arcs + n) (drop figures.at sheet) c.in_err-read_end.field-0.0) count c.in_err-read_end.ensures))
+    (end_stop header.header c.args.sheet.now _ (omega arith) _ header.ensures.0 _ (grades_there at.In_ok-first_row) _ (rows_there at.In_ok-row) _ (arcs_there at.In_ok-arc) _ c.in_ok-figures.ensures.through
+    (subst (λ n. EndFault (2 + h.grades + h.rows + h.arcs + n) (drop c.in_ok-figures.at c.args.sheet.now) c.in_err-read_end.field-0.0) count c.in_err-read_end.ensures))
