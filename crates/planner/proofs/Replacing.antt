@@ -71,11 +71,15 @@ applied_none : {A : Type 0} (f : ℕ → Option A) (n : ℕ) (xs ys : List A) �
 applied_none f n xs ys so e = so ∙ ap (λ o. replaced n o (applied f n xs)) e ∙ sym (applied_more f n xs)
 
 -- one grade more, whose entry is written in any case: the old one, where nothing is given
-pub applied_or : {A : Type 0} (f : ℕ → Option A) (n : ℕ) (xs ys : List A) (d : A) (o : Option A) → ys ≡ applied f n xs → o ≡ f (n + 1) → set ys n (unwrap_or o (get_or xs n d)) ≡ applied f (n + 1) xs
+applied_or : {A : Type 0} (f : ℕ → Option A) (n : ℕ) (xs ys : List A) (d : A) (o : Option A) → ys ≡ applied f n xs → o ≡ f (n + 1) → set ys n (unwrap_or o (get_or xs n d)) ≡ applied f (n + 1) xs
 applied_or f n xs ys d None so e =
     let same : get_or xs n d ≡ get_or ys n d = sym (applied_beyond f n xs n d (omega arith)) ∙ ap (λ l. get_or l n d) (sym so) in
     ap (set ys n) same ∙ set-get_or ys n d ∙ applied_none f n xs ys so e
 applied_or f n xs ys d (Some x) so e = applied_some f n xs ys x so e
+
+-- the same of an entry that was read from the old ones
+pub applied_entry : {A : Type 0} (f : ℕ → Option A) (n : ℕ) (xs ys : List A) (o : Option A) (old entry : A) → entry ≡ unwrap_or o old → old ≡ get_or xs n old → ys ≡ applied f n xs → o ≡ f (n + 1) → set ys n entry ≡ applied f (n + 1) xs
+applied_entry f n xs ys o old entry is read so e = ap (set ys n) (is ∙ ap (unwrap_or o) read) ∙ applied_or f n xs ys old o so e
 
 -- what holds of the old and of the new holds of what stands there
 or_holds : {A : Type 0} (P : A → Type 0) (o : Option A) (old : A) → IfSome o P → P old → P (or_old o old)
@@ -87,9 +91,12 @@ part_holds part P Q None h all = tt
 part_holds part P Q (Some x) h all = h x all
 
 -- figures in range, and rows of a table, stay so
-pub applied_figures : (f : ℕ → Option Cost) (ws : List Cost) → length ws ≡ 32 → FiguresIn ws → ((i : ℕ) → i < 32 → IfSome (f (i + 1)) FigureIn) → FiguresIn (applied f 32 ws)
-applied_figures f ws long old new i h = subst FigureIn (sym (applied_at f 32 ws i nothing h (omega (arith, long)))) (or_holds FigureIn (f (i + 1)) (get_or ws i nothing) (new i h) (old i h))
+pub applied_figures : (n : ℕ) (f : ℕ → Option Cost) (ws : List Cost) → n ≤ 32 → length ws ≡ 32 → FiguresIn ws → ((i : ℕ) → i < 32 → IfSome (f (i + 1)) FigureIn) → FiguresIn (applied f n ws)
+applied_figures n f ws few long old new =
+    applied_in f n ws few long old (λ g h.
+    let same : g - 1 + 1 ≡ g = omega (arith, h.0) in
+    or_holds FigureIn (f g) (figure_at ws g) (subst (λ j. IfSome (f j) FigureIn) same (new (g - 1) (omega (arith, h.0, h.1)))) (old (g - 1) (omega (arith, h.0, h.1))))
 
-pub applied_rows : (n most : ℕ) (f : ℕ → Option ℕ) (rows : List ℕ) → n ≤ 32 → length rows ≡ 32 → FirstsIn n most rows → ((i : ℕ) → i < 32 → IfSome (f (i + 1)) (Within 1 most)) → FirstsIn n most (applied f 32 rows)
+pub applied_rows : (n most : ℕ) (f : ℕ → Option ℕ) (rows : List ℕ) → n ≤ 32 → length rows ≡ 32 → FirstsIn n most rows → ((i : ℕ) → i < 32 → IfSome (f (i + 1)) (Within 1 most)) → FirstsIn n most (applied f n rows)
 applied_rows n most f rows few long old new i h =
-    subst (Within 1 most) (sym (applied_at f 32 rows i 0 (omega arith) (omega (arith, long)))) (or_holds (Within 1 most) (f (i + 1)) (get_or rows i 0) (new i (omega arith)) (old i h))
+    subst (Within 1 most) (sym (applied_at f n rows i 0 h (omega (arith, long)))) (or_holds (Within 1 most) (f (i + 1)) (get_or rows i 0) (new i (omega arith)) (old i h))

@@ -1,5 +1,5 @@
 -- Roundings by b · D: what they may be asked, and that they give figures in range. Assumes nothing.
-use Rattle.std.proofs.Common.{◌≡◌, ℕ, ◌*◌, ◌^◌, Bool, true, false, Option, sym, ap, ◌∙◌, subst, arith, IfSome}
+use Rattle.std.proofs.Common.{◌≡◌, ℕ, ◌*◌, ◌^◌, Bool, true, false, Option, sym, ap, ◌∙◌, subst, IfSome}
 use Rattle.std.specs.Bool.{then_some}
 use Rattle.rankings.specs.Costs.{Cost, Within}
 use Rattle.rankings.specs.Laws.{Rounds}

@@ -1,6 +1,6 @@
 -- Tests of a list's entries, as tests of the grades that they are for. Assumes nothing.
-use Rattle.std.proofs.Common.{◌≡◌, ℕ, zero, suc, ◌+◌, ◌-◌, ◌≤◌, Bool, true, false, cond, ◌||◌, List, [], ◌∷◌, length, get_or, take, None, Option, is_some, sym, refl, ap, ◌∙◌, arith}
-use Rattle.std.proofs.Math.Seq.{take-suc, take-length}
+use Rattle.std.proofs.Common.{◌≡◌, ℕ, zero, suc, ◌+◌, ◌-◌, ◌≤◌, Bool, true, false, cond, ◌||◌, List, [], ◌∷◌, length, get_or, take, None, Option, is_some, refl, ap, ◌∙◌, arith}
+use Rattle.std.proofs.Math.Seq.{take-suc}
 use Rattle.std.specs.List.{list_any, count_by}
 use Rattle.std.proofs.lemmas.List.Folds.{list_any-append}
 use Rattle.std.proofs.lemmas.List.Sums.{sum_by-append}
@@ -35,12 +35,9 @@ module _ {X : Type 0} (p : X → Bool) (d : X) (xs : List X) where
       let one = none ∙ ap (λ b. cond b 1 0) (last n) in
       ap (count_by p) (take-suc xs n d h) ∙ sum_by-append worth (take n xs) (get_or xs n d ∷ []) ∙ (λ i. count_first n (omega arith) i + one i)
 
-module _ {T : Type 0} (xs : List (Option T)) (long : length xs ≡ 32) where
-  whole : take 32 xs ≡ xs
-  whole = ap (λ n. take n xs) (sym long) ∙ take-length xs
+module _ {T : Type 0} (xs : List (Option T)) (long : length xs ≡ 32) (n : ℕ) (few : n ≤ 32) where
+  pub any_given : list_any is_some (take n xs) ≡ any_of (λ g. is_some (given_for xs g)) n
+  any_given = any_first is_some None xs n (omega (arith, long))
 
-  pub any_given : list_any is_some xs ≡ any_of (λ g. is_some (given_for xs g)) 32
-  any_given = ap (list_any is_some) (sym whole) ∙ any_first is_some None xs 32 (omega (arith, long))
-
-  pub count_given : count_by is_some xs ≡ count_of (λ g. is_some (given_for xs g)) 32
-  count_given = ap (count_by is_some) (sym whole) ∙ count_first is_some None xs 32 (omega (arith, long))
+  pub count_given : count_by is_some (take n xs) ≡ count_of (λ g. is_some (given_for xs g)) n
+  count_given = count_first is_some None xs n (omega (arith, long))

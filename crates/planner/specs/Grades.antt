@@ -32,10 +32,10 @@ ceiling_for choices g = option_map (λ c. c.cost) (given_for choices g)
 abbrev pub row_for : List (Option Choice) → ℕ → Option ℕ
 row_for choices g = option_map (λ c. c.row) (given_for choices g)
 
--- floors, and ceilings with their rows, replaced by what is given for each grade
-abbrev pub revised_by : List (Option Cost) → List (Option Choice) → Shown → Shown
-revised_by floors choices s = record {
-  rows = applied (row_for choices) 32 s.rows;
-  floors = applied (given_for floors) 32 s.floors;
-  ceilings = applied (ceiling_for choices) 32 s.ceilings;
+-- floors, and ceilings with their rows, of the first n grades replaced by what is given for each
+abbrev pub revised_by : ℕ → List (Option Cost) → List (Option Choice) → Shown → Shown
+revised_by n floors choices s = record {
+  rows = applied (row_for choices) n s.rows;
+  floors = applied (given_for floors) n s.floors;
+  ceilings = applied (ceiling_for choices) n s.ceilings;
 }

@@ -53,16 +53,22 @@ pub fn improve_once<R: Rounding>(ranking: &R, page: &Page) -> Improved
     ensures gave_way { result.gave_way ≡ giving_way (R.Ranking.ranks ranking.now) (R.dear ranking.now) page.now.sound.table (shown page.now.figures) }
     ensures keeps { Keeping (R.Ranking.ranks ranking.now) page.now.sound.table (shown page.now.figures) (shown result.page.figures) }
 {
-    let sound = page.sound;
-    let mut figures = page.figures;
-    let eased = per_grade(&sound, |grade| eased_ceiling(ranking, grade, &figures));
-    let ceilings = replaced(&figures.ceiling.at, |i| eased[i]);
-    figures.ceiling = Column { at: ceilings };
-    let better = per_grade(&sound, |grade| better_row(ranking, grade, &figures));
-    figures.row = replaced(&figures.row, |i| better[i]);
+    let n = page.sound.table.grades;
+    let mut improved = *page;
+    let eased = per_grade(
+        &page.sound,
+        |grade| eased_ceiling(ranking, grade, &page.figures),
+    );
+    let ceilings = replaced(&page.figures.ceiling.at, n, |i| eased[i]);
+    improved.figures.ceiling = Column { at: ceilings };
+    let better = per_grade(
+        &page.sound,
+        |grade| better_row(ranking, grade, &improved.figures),
+    );
+    improved.figures.row = replaced(&page.figures.row, n, |i| better[i]);
     Improved {
-        page: Page { sound, figures },
-        gave_way: count_given(&better),
+        page: improved,
+        gave_way: count_given(&better, n),
     }
 }
 

@@ -60,15 +60,18 @@ pub fn sweep_once<R: Rounding>(ranking: &R, page: &Page) -> Sweep
     ensures moved { result.moved ≡ moves (R.Ranking.ranks ranking.now) (R.cheap ranking.now) (R.dear ranking.now) page.now.sound.table (shown page.now.figures) }
     ensures keeps { Keeping (R.Ranking.ranks ranking.now) page.now.sound.table (shown page.now.figures) (shown result.page.figures) }
 {
-    let Page { sound, figures } = page;
-    let raised = per_grade(sound, |grade| raised_floor(ranking, grade, &figures.floor));
+    let sound = page.sound;
+    let n = sound.table.grades;
+    let old = &page.figures;
+    let raised = per_grade(&sound, |grade| raised_floor(ranking, grade, &old.floor));
     let lowered = per_grade(
-        sound,
-        |grade| lowered_ceiling(ranking, grade, &figures.ceiling),
+        &sound,
+        |grade| lowered_ceiling(ranking, grade, &old.ceiling),
     );
+    let figures = revised(page, &raised, &lowered);
     Sweep {
-        page: revised(page, &raised, &lowered),
-        moved: some_given(&raised) | some_given(&lowered),
+        page: Page { sound, figures },
+        moved: some_given(&raised, n) | some_given(&lowered, n),
     }
 }
 

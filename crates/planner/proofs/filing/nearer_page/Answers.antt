@@ -18,8 +18,8 @@ filed-in p q one grade same (Some c) figure row =
     let there = q.planned (grade.number - 1) (omega (arith, grade.among.0)) in
     (figure, subst (Within 1 p.sound.table.rows) (sym row) (subst (λ s. Within 1 s.table.rows (plan_row q.figures.row grade.number)) one there))
 
-pub revised-requires : goal.revised-requires
-revised-requires g c =
+pub revised-figures-requires : goal.revised-figures-requires
+revised-figures-requires g c =
     let p = c.args.standing.now in
     let q = c.args.filed.now in
     record {
@@ -38,7 +38,7 @@ returns-clause-after g c =
     let le = g.R.Ranking.ranks c.args.ranking.now in
     let f = dearer_floor le (shown p.figures) (shown q.figures) in
     let h = cheaper_choice le (shown p.figures) (shown q.figures) in
-    let floors = given_applied _ _ c.per_grade-floors.ensures f (λ grade o same r. search rules) 32 t.graded.1 p.figures.floor.at in
-    let ceilings = given_parts _ _ c.per_grade-choices.ensures h (λ grade o same r. search rules) (λ c. c.cost) 32 t.graded.1 p.figures.ceiling.at in
-    let rows = given_parts _ _ c.per_grade-choices.ensures h (λ grade o same r. search rules) (λ c. c.row) 32 t.graded.1 p.figures.row in
-    c.revised.ensures.after ∙ (λ i. record { rows = rows i; floors = floors i; ceilings = ceilings i })
+    let floors = given_applied _ _ c.per_grade-floors.ensures f (λ grade o same r. search rules) t.grades (omega arith) p.figures.floor.at in
+    let ceilings = given_parts _ _ c.per_grade-choices.ensures h (λ grade o same r. search rules) (λ c. c.cost) t.grades (omega arith) p.figures.ceiling.at in
+    let rows = given_parts _ _ c.per_grade-choices.ensures h (λ grade o same r. search rules) (λ c. c.row) t.grades (omega arith) p.figures.row in
+    c.revised-figures.ensures.after ∙ (λ i. record { rows = rows i; floors = floors i; ceilings = ceilings i })

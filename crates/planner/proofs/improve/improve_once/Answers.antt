@@ -1,4 +1,4 @@
-use Rattle.std.proofs.Common.{◌≡◌, get_or, length, is_some, None, refl, sym, ap, ◌∙◌, subst, rules}
+use Rattle.std.proofs.Common.{◌≡◌, get_or, length, is_some, None, refl, sym, ap, ◌∙◌, subst, arith, rules}
 use Rattle.table.specs.Lookahead.{figure_at}
 use Rattle.table.specs.Ranges.{Within, FirstsIn, FigureIn, FiguresIn}
 use Rattle.table.proofs.Soundness.{sound_table}
@@ -13,23 +13,24 @@ use Rattle.planner.proofs.RoundSteps.{round_follows}
 use Rattle.planner.proofs.Tests.{count_given}
 use Rattle.planner.proofs.improve.improve_once.Goals as goal
 
-pub invariant_of-figures : goal.invariant_of-figures
-invariant_of-figures g c =
+pub invariant_of-improved : goal.invariant_of-improved
+invariant_of-improved g c =
+    let t = c.args.page.now.sound.table in
     let old = c.args.page.now.figures.ceiling in
     let eased = c.per_grade-eased.result in
     let is = c.replaced-ceilings.ensures (λ i. get_or eased i None) (λ i r h p. search rules) in
     let within = given_all _ _ c.per_grade-eased.ensures FigureIn (λ grade o same r. search rules) in
     record {
-      within = subst FiguresIn (sym is) (applied_figures (given_for eased) old.at old.long old.within (here FigureIn eased within));
-      long = ap length is ∙ applied_long (given_for eased) 32 old.at ∙ old.long;
+      within = subst FiguresIn (sym is) (applied_figures t.grades (given_for eased) old.at t.graded.1 old.long old.within (here FigureIn eased within));
+      long = ap length is ∙ applied_long (given_for eased) t.grades old.at ∙ old.long;
     }
 
-pub invariant_of-result : goal.invariant_of-result
-invariant_of-result g c =
+pub invariant_of-improved-5 : goal.invariant_of-improved-5
+invariant_of-improved-5 g c =
     let old = c.args.page.now in
     let t = old.sound.table in
     let better = c.per_grade-better.result in
-    let is = c.replaced-figures.ensures (λ i. get_or better i None) (λ i r h p. search rules) in
+    let is = c.replaced-improved.ensures (λ i. get_or better i None) (λ i r h p. search rules) in
     let within = given_all _ _ c.per_grade-better.ensures (Within 1 t.rows) (λ grade o same r. search rules) in
     record { planned = subst (FirstsIn t.grades t.rows) (sym is) (applied_rows t.grades t.rows (given_for better) old.figures.row t.graded.1 old.figures.long old.planned (here (Within 1 t.rows) better within)) }
 
@@ -42,12 +43,12 @@ returns g c =
     let dear = g.R.Rounding.dear s in
     let old = shown p.figures in
     let f = eased le dear t p.figures.row (figure_at p.figures.ceiling.at) in
-    let high = c.replaced-ceilings.ensures (λ i. get_or c.per_grade-eased.result i None) (λ i r h p. search rules) ∙ given_applied _ _ c.per_grade-eased.ensures f (λ grade o same r. search rules) 32 t.graded.1 p.figures.ceiling.at in
+    let high = c.replaced-ceilings.ensures (λ i. get_or c.per_grade-eased.result i None) (λ i r h p. search rules) ∙ given_applied _ _ c.per_grade-eased.ensures f (λ grade o same r. search rules) t.grades (omega arith) p.figures.ceiling.at in
     let new = given le dear t p.figures.row (figure_at c.replaced-ceilings.result) in
     let gives = given le dear t p.figures.row (figure_at (eased_ceilings le dear t old)) in
     let same : new ≡ gives = ap (λ ws. given le dear t p.figures.row (figure_at ws)) high in
-    let rows = c.replaced-figures.ensures (λ i. get_or c.per_grade-better.result i None) (λ i r h p. search rules) ∙ given_applied _ _ c.per_grade-better.ensures new (λ grade o same r. search rules) 32 t.graded.1 p.figures.row in
-    let count = c.count_given.ensures ∙ count_given c.per_grade-better.result c.per_grade-better.ensures.long ∙ given_count _ _ c.per_grade-better.ensures new (λ grade o same r. search rules) 32 t.graded.1 in
+    let rows = c.replaced-improved.ensures (λ i. get_or c.per_grade-better.result i None) (λ i r h p. search rules) ∙ given_applied _ _ c.per_grade-better.ensures new (λ grade o same r. search rules) t.grades (omega arith) p.figures.row in
+    let count = c.count_given.ensures ∙ count_given c.per_grade-better.result c.per_grade-better.ensures.long t.grades t.graded.1 ∙ given_count _ _ c.per_grade-better.ensures new (λ grade o same r. search rules) t.grades (omega arith) in
     let after : _ ≡ round_of le dear t old = (λ i. record { rows = (rows ∙ ap (λ h. applied h t.grades p.figures.row) same) i; floors = p.figures.floor.at; ceilings = high i }) in
     record {
       table = refl;
