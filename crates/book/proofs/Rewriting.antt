@@ -1,8 +1,10 @@
 -- What a sheet opens to can always be written over it. Assumes nothing.
-use Rattle.std.proofs.Common.{◌≡◌, ℕ, ◌<◌, Bool, List, length, Some, Err, sym, ap, ◌∙◌, subst, ⊎_elim, arith}
+use Rattle.std.proofs.Common.{◌≡◌, ℕ, ◌<◌, Bool, List, length, Some, Err, Option, sym, ap, ◌∙◌, subst, ⊎_elim, arith}
 use Rattle.rankings.specs.Costs.{Cost}
 use Rattle.text.specs.Fields.{Label}
+use Rattle.table.specs.declared.figures.Figures.{Figures}
 use Rattle.table.specs.declared.page.Page.{Page}
+use Rattle.table.specs.declared.table.Table.{Table}
 use Rattle.sheet.specs.declared.whole.Sheet.{Sheet}
 use Rattle.sheet.specs.declared.write_fault.WriteFault.{WriteFault}
 use Rattle.sheet.specs.declared.write_fault.WriteFault.TheVariants.{OldSheet, Room}
@@ -31,3 +33,8 @@ written_over le text out after p q s (Room n) long of same w told =
     let gl : (i : ℕ) → i < q.sound.table.grades → Label (labels_of text u.labels.grade i) = λ i h. old.reads.grade_labels i (subst (λ k. i < k) (sym old.grades) h) in
     let rl : (i : ℕ) → i < q.sound.table.rows → Label (labels_of text u.labels.row i) = λ i h. old.reads.row_labels i (subst (λ k. i < k) (sym old.rows) h) in
     omega (arith, long, w.1.1, w.1.2, render_short q.sound.table (Some q.figures) (labels_of text u.labels.grade) (labels_of text u.labels.row) gl rl q.planned)
+
+-- a refused writing leaves the buffer
+pub left_over : (out old after : List ℕ) (t : Table) (f : Option Figures) (e : WriteFault) → Wrote out old t f (Err e) after → after ≡ out
+left_over out old after t f (OldSheet l) w = w.1
+left_over out old after t f (Room n) w = w.1.3

@@ -13,7 +13,7 @@ use text::{End, write_bytes, write_count};
 /// clause says that a `fmt` succeeds where there is room, and `recount` promises the line.
 fn write_refusal(out: &mut [u8], refusal: &Refusal) -> Option<usize>
     ensures writes { Writes out.old 0 (refusal_text refusal.now) result out.new }
-    ensures short { length (refusal_text refusal.now) ≤ 67 }
+    ensures short { length (refusal_text refusal.now) ≤ 64 }
 {
     let number = u64::from(refusal.number());
     let layer = u32::from(refusal.layer());

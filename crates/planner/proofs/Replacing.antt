@@ -97,6 +97,21 @@ applied_figures n f ws few long old new =
     let same : g - 1 + 1 ≡ g = omega (arith, h.0) in
     or_holds FigureIn (f g) (figure_at ws g) (subst (λ j. IfSome (f j) FigureIn) same (new (g - 1) (omega (arith, h.0, h.1)))) (old (g - 1) (omega (arith, h.0, h.1))))
 
-pub applied_rows : (n most : ℕ) (f : ℕ → Option ℕ) (rows : List ℕ) → n ≤ 32 → length rows ≡ 32 → FirstsIn n most rows → ((i : ℕ) → i < 32 → IfSome (f (i + 1)) (Within 1 most)) → FirstsIn n most (applied f n rows)
-applied_rows n most f rows few long old new i h =
-    subst (Within 1 most) (sym (applied_at f n rows i 0 h (omega (arith, long)))) (or_holds (Within 1 most) (f (i + 1)) (get_or rows i 0) (new i (omega arith)) (old i h))
+pub applied_rows : (n m most : ℕ) (f : ℕ → Option ℕ) (rows : List ℕ) → n ≤ m → m ≤ 32 → length rows ≡ 32 → FirstsIn n most rows → ((i : ℕ) → i < 32 → IfSome (f (i + 1)) (Within 1 most)) → FirstsIn n most (applied f m rows)
+applied_rows n m most f rows some few long old new i h =
+    subst (Within 1 most) (sym (applied_at f m rows i 0 (omega arith) (omega (arith, long)))) (or_holds (Within 1 most) (f (i + 1)) (get_or rows i 0) (new i (omega arith)) (old i h))
+
+-- the same of one place in a list of any length
+pub set_within : (ws : List Cost) (i : ℕ) (w : Cost) → i < length ws → FiguresIn ws → FigureIn w → FiguresIn (set ws i w)
+set_within ws i w inside all one k h =
+    ⊎_elim
+    (λ same. subst FigureIn (sym (ap (λ j. get_or (set ws i w) j nothing) same ∙ get_or-set_same ws i w nothing inside)) one)
+    (λ apart. subst FigureIn (sym (get_or-set_other ws i k w nothing apart)) (all k h))
+    (cases_eq k i)
+
+pub set_row : (n most : ℕ) (rows : List ℕ) (i k : ℕ) → i < length rows → FirstsIn n most rows → Within 1 most k → FirstsIn n most (set rows i k)
+set_row n most rows i k inside all one j h =
+    ⊎_elim
+    (λ same. subst (Within 1 most) (sym (ap (λ m. get_or (set rows i k) m 0) same ∙ get_or-set_same rows i k 0 inside)) one)
+    (λ apart. subst (Within 1 most) (sym (get_or-set_other rows i j k 0 apart)) (all j h))
+    (cases_eq j i)

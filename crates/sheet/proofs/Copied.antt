@@ -1,5 +1,5 @@
 -- A draft copied to the front of a buffer.
-use Rattle.std.proofs.Common.{◌≡◌, ℕ, ◌+◌, List, ◌++◌, length, take, drop, Some, ap, ◌∙◌, arith}
+use Rattle.std.proofs.Common.{◌≡◌, ℕ, ◌+◌, ◌≤◌, List, ◌++◌, length, take, drop, Some, None, ap, ◌∙◌, arith}
 use Rattle.std.proofs.lemmas.List.{take_at}
 use Rattle.text.specs.Writing.{put, Writes}
 
@@ -9,3 +9,7 @@ copied out draft draft' text self n w is =
     let same : n ≡ 0 + length text = omega arith in
     let front : self ≡ text = is ∙ ap (take n) w.2 ∙ take_at text (drop (0 + length text) draft) n long in
     λ i. front i ++ drop (same i) out
+
+-- what has no room is longer than the draft
+pub never : (draft draft' text : List ℕ) → Writes draft 0 text None draft' → length text ≤ length draft → ⊥
+never draft draft' text w short = omega arith

@@ -2,19 +2,32 @@
 use Rattle.std.proofs.Common.{◌≡◌, ℕ, ◌+◌, ◌-◌, ◌<◌, ◌≤◌, List, [], ◌∷◌, ◌++◌, length, take, drop, Some, None, Ok, Err, Option, Result, refl, sym, ap, ◌∙◌, subst, inl, inr, arith}
 use Rattle.std.specs.Option.{ok_or}
 use Rattle.text.specs.Reading.{Reads}
-use Rattle.text.proofs.Reading.{not_some, same_pair}
+use Rattle.text.proofs.Reading.{refused, returned, not_some, same_pair}
 use Rattle.lines.specs.declared.fault.TextFault.{TextFault}
 use Rattle.lines.specs.declared.fault.TextFault.TheVariants as fault
 use Rattle.lines.specs.declared.records.HeaderLine.{HeaderLine}
 use Rattle.lines.specs.declared.records.Line.{Line}
 use Rattle.lines.specs.declared.records.Line.TheVariants as line
-use Rattle.lines.specs.Lines.{HeaderOf, header, end, line_text, blank, four_text, Good, entry_of, grade_of, row_of}
+use Rattle.lines.specs.Lines.{Entry, HeaderOf, header, end, line_text, blank, four_text, Good, entry_of, grade_of, row_of}
 use Rattle.lines.specs.Places.{label_of}
 use Rattle.sheet.specs.Due.{Counts, Slot, Said, entry, Ranged}
 use Rattle.sheet.specs.Halts.{LineFault}
 use Rattle.sheet.specs.Read.{RangedOf, KeptOf, span_of, LineRead}
 use Rattle.sheet.specs.Render.{part_of}
 use Rattle.sheet.proofs.Parts.{label_part, grade_front, row_front}
+
+-- what is read at the front is read as a line of one kind, where it is of that kind, and else as none
+module _ {A : Type 0} (G : A → Type 0) (mk : A → Entry) (to : (a : A) → Good (mk a) → G a) (fro : (a : A) → G a → Good (mk a)) (inj : (a b : A) → mk a ≡ mk b → a ≡ b) (bs : List ℕ) where
+  kind_some : (a : A) (rest : List ℕ) → Reads Good line_text bs (Some (mk a, rest)) → Reads G (λ x. line_text (mk x)) bs (Some (a, rest))
+  kind_some a rest r =
+      let w = r.was (mk a) rest refl in
+      returned a rest (to a w.0) w.1 (λ b more h at. let p = same_pair (mk a) (mk b) rest more (r.must (mk b) more (fro b h) at) in (sym (inj a b p.0), sym p.1))
+
+  kind_none : Reads Good line_text bs None → Reads G (λ x. line_text (mk x)) bs None
+  kind_none r = refused (λ a rest g e. not_some (r.must (mk a) rest (fro a g) e))
+
+  kind_other : (e : Entry) (rest : List ℕ) → Reads Good line_text bs (Some (e, rest)) → ((a : A) → e ≡ mk a → ⊥) → Reads G (λ x. line_text (mk x)) bs None
+  kind_other e rest r other = refused (λ a more g at. other a (same_pair e (mk a) rest more (r.must (mk a) more (fro a g) at)).0)
 
 -- a line of another kind does not say it
 pub not_header : (l : Line) → ((x : HeaderLine) → l ≡ line.Header x → ⊥) → (y : HeaderOf) → entry_of l ≡ header y → ⊥

@@ -1,16 +1,12 @@
 -- Where exactly one index points to each number, a chain from a first index ends. Assumes nothing.
-use Rattle.std.proofs.Common.{◌≡◌, ℕ, zero, suc, ◌+◌, ◌-◌, ◌<◌, ◌≤◌, ◌⊎◌, List, true, eqb, ◌||◌, ◌++◌, map, length, get_or, sym, refl, ◌∙◌, subst, inl, inr, ⊎_elim, arith}
-use Rattle.std.specs.List.{list_any, range_with_len}
-use Rattle.std.proofs.lemmas.Bool.{false≢true, ne_eqb, cases_eq, cases_lt}
-use Rattle.std.proofs.lemmas.Bool.Decides.{eqb_tells}
-use Rattle.std.proofs.lemmas.List.FromFn.{length-map-range_with_len, get_or-map-range_with_len}
-use Rattle.std.proofs.lemmas.Map.Keys.{IsDistinct-from_apart}
-use Rattle.std.proofs.lemmas.Map.Steps.{length-le_from_distinct_below}
+use Rattle.std.proofs.Common.{◌≡◌, ℕ, zero, suc, ◌+◌, ◌-◌, ◌<◌, ◌≤◌, ◌⊎◌, List, ◌++◌, length, get_or, sym, refl, ◌∙◌, subst, inl, inr, ⊎_elim, arith}
+use Rattle.std.proofs.lemmas.Bool.{cases_eq, cases_lt}
 use Rattle.table.specs.Ranges.{Within}
 use Rattle.table.specs.Chains.{walk}
 use Rattle.table.specs.Faults.{count}
 use Rattle.table.specs.Sound.{Chain}
-use Rattle.table.proofs.Tallies.{count-++, count_some, count_two}
+use Rattle.table.specs.Walks.{AllIn}
+use Rattle.table.proofs.Tallies.{count-++, count_some, count_two, count_once, few}
 
 -- j steps on from k
 abbrev pub steps : (ℕ → ℕ) → ℕ → ℕ → ℕ
@@ -42,15 +38,6 @@ ends_or next (suc f) (suc k) =
     on : (i : ℕ) → Going next f (next (suc k)) → i ≤ suc f → 0 < steps next i (suc k)
     on zero g h = omega arith
     on (suc i) g h = g i (omega arith)
-
--- one of the values of f at m numbers from a on
-some_of : (f : ℕ → ℕ) (q a m : ℕ) → list_any (eqb q) (map f (range_with_len a m)) ≡ true → (i : ℕ) × ((a ≤ i) × (i < a + m) × (q ≡ f i))
-some_of f q a zero e = absurd (false≢true e)
-some_of f q a (suc m) e =
-    ⊎_elim
-    (λ t. (a, (omega arith, omega arith, t.1)))
-    (λ t. let r = some_of f q (a + 1) m (subst (λ b. (b || list_any (eqb q) (map f (range_with_len (a + 1) m))) ≡ true) t.0 e) in (r.0, (omega (arith, r.1.0), omega (arith, r.1.1), r.1.2)))
-    (eqb_tells q (f a))
 
 module _ (n : ℕ) (next : ℕ → ℕ) (firsts nexts : List ℕ)
     (one : (y : ℕ) → Within 1 n y → count y (firsts ++ nexts) ≡ 1)
@@ -90,17 +77,31 @@ module _ (n : ℕ) (next : ℕ → ℕ) (firsts nexts : List ℕ)
       (λ ne. ⊎_elim (λ lt. two_nexts x z y h b w lt nx nz) (λ ge. two_nexts z x y b h w (omega (arith, ne, ge)) nz nx) (cases_lt x z))
       (cases_eq x z)
 
-  -- the numbers that n steps come to, one lower, would be n + 1 numbers below n
+  -- the first m steps as a list
+  walk_long : (m q : ℕ) → ((i : ℕ) → i < m → 0 < steps next i q) → length (walk next m q) ≡ m
+  walk_long zero q g = refl
+  walk_long (suc m) zero g = absurd (omega (arith, g 0 (omega arith)))
+  walk_long (suc m) (suc q) g = let h = walk_long m (next (suc q)) (λ i b. g (suc i) (omega arith)) in omega arith
+
+  walk_at : (m q i : ℕ) → ((j : ℕ) → j < m → 0 < steps next j q) → i < m → get_or (walk next m q) i 0 ≡ steps next i q
+  walk_at zero q i g h = absurd (omega arith)
+  walk_at (suc m) zero i g h = absurd (omega (arith, g 0 (omega arith)))
+  walk_at (suc m) (suc q) zero g h = refl
+  walk_at (suc m) (suc q) (suc i) g h = walk_at m (next (suc q)) i (λ j b. g (suc j) (omega arith)) (omega arith)
+
+  all_in : (m q : ℕ) → ((i : ℕ) → i < m → Within 1 n (steps next i q)) → AllIn n (walk next m q)
+  all_in zero q g = tt
+  all_in (suc m) zero g = absurd (omega (arith, (g 0 (omega arith)).0))
+  all_in (suc m) (suc q) g = (g 0 (omega arith), all_in m (next (suc q)) (λ i b. g (suc i) (omega arith)))
+
   never_on : Going next n k → ⊥
   never_on g =
-      let f : ℕ → ℕ = λ i. steps next i k - 1 in
-      let at : (i : ℕ) → i ≤ n → Within 1 n (steps next i k) = λ i h. inside i (λ j b. g j (omega arith)) in
-      let xs = map f (range_with_len 0 (n + 1)) in
-      let read = λ (i d : ℕ) (h : i < n + 1). get_or-map-range_with_len f 0 (n + 1) i i d h (omega arith) in
-      let distinct = IsDistinct-from_apart eqb xs (λ i j d lt h.
-      let most : j < n + 1 = omega (arith, length-map-range_with_len f 0 (n + 1)) in
-      ne_eqb (get_or xs i d) (get_or xs j d) (λ e. apart i j lt (λ m b. g m (omega arith)) (omega (arith, e, read i d (omega arith), read j d most, at i (omega arith), at j (omega arith))))) in
-      omega (arith, length-map-range_with_len f 0 (n + 1), length-le_from_distinct_below xs n distinct (λ q h. let s = some_of f q 0 (n + 1) h in omega (arith, s.1.2, at s.0 (omega (arith, s.1.1)))))
+      let going : (i : ℕ) → i < n + 1 → 0 < steps next i k = λ i h. g i (omega arith) in
+      let xs = walk next (n + 1) k in
+      let l = walk_long (n + 1) k going in
+      let distinct : (i j : ℕ) → i < j → j < length xs → get_or xs i 0 ≡ get_or xs j 0 → ⊥ =
+      λ i j lt h e. apart i j lt (λ c b. g c (omega (arith, l))) (sym (walk_at (n + 1) k i going (omega (arith, l))) ∙ e ∙ walk_at (n + 1) k j going (omega (arith, l))) in
+      omega (arith, l, few n xs (all_in (n + 1) k (λ i h. inside i (λ c b. g c (omega arith)))) (λ y w. count_once y xs distinct))
 
   pub ends : Chain next k (walk next n k)
   ends = ⊎_elim (λ c. c) (λ g. absurd (never_on g)) (ends_or next n k)

@@ -1,5 +1,5 @@
 -- Marks of what the chains of several heads reach, while one chain is followed. Assumes nothing.
-use Rattle.std.proofs.Common.{◌≡◌, ℕ, zero, suc, ◌+◌, ◌-◌, ◌*◌, ◌<◌, ◌≤◌, List, [], ◌∷◌, ◌++◌, length, get_or, take, sym, refl, ap, ◌∙◌, subst, append_assoc, add-one, arith}
+use Rattle.std.proofs.Common.{◌≡◌, ℕ, zero, suc, ◌+◌, ◌-◌, ◌*◌, ◌<◌, ◌≤◌, List, [], ◌∷◌, ◌++◌, length, get_or, take, sym, refl, ap, ◌∙◌, subst, append_assoc, mul-add, add-one, arith}
 use Rattle.std.proofs.lemmas.List.{take_more, flat_map_more, length-append}
 use Rattle.std.proofs.lemmas.List.Concat.{length-flat_map}
 use Rattle.std.proofs.lemmas.List.Folds.{length-flat_map-take}
@@ -62,6 +62,14 @@ gathered_is f e hs d (suc n) fit each =
     let first = gathered_is f e hs d n (omega arith) (λ i h. each i (omega arith)) in
     let last : f (suc n) ≡ e (get_or hs n d) = ap f (sym (add-one n)) ∙ each n (omega arith) in
     (λ i. first i ++ last i) ∙ flat_map_more e [] (take n hs) (get_or hs n d) ∙ ap (flat_map e) (sym (take_more hs n d (omega arith)) ∙ ap (λ j. take j hs) (add-one n))
+
+-- lists that are each at most b long are together at most b times as long as there are lists
+pub gathered-≤ : (f : ℕ → List ℕ) (b : ℕ) → ((i : ℕ) → length (f i) ≤ b) → (n : ℕ) → length (gathered f n) ≤ b * n
+gathered-≤ f b each zero = omega arith
+gathered-≤ f b each (suc n) =
+    let h = gathered-≤ f b each n in
+    let e = each (suc n) in
+    omega (arith, length-append (gathered f n) (f (suc n)), mul-add b n 1)
 
 module _ (t : Table) where
   pub rows_reached : reached_rows t ≡ chains (λ k. k) (λ r. r.next) row0 (take t.rows t.row) (take t.grades t.first_row)

@@ -1,11 +1,17 @@
 -- Counts of the numbers of a list, one number more at a time. Assumes nothing.
-use Rattle.std.proofs.Common.{◌≡◌, ℕ, zero, suc, ◌+◌, ◌-◌, ◌<◌, ◌≤◌, cond, eqb, List, [], ◌∷◌, ◌++◌, map, length, get_or, take, set, sym, refl, ap, ◌∙◌, subst, append_assoc, ⊎_elim, add-zero, arith}
-use Rattle.std.proofs.lemmas.List.{length-set, length-append, length-map, length-take, map_more, get_or-set_same, get_or-set_other, get_or-take, length-take-le}
-use Rattle.std.proofs.lemmas.Bool.{eq-eqb, ne_eqb}
+use Rattle.std.proofs.Common.{◌≡◌, ℕ, zero, suc, ◌+◌, ◌-◌, ◌<◌, ◌≤◌, cond, eqb, List, [], ◌∷◌, ◌++◌, map, length, get_or, take, set, replicate, true, false, ◌||◌, sym, refl, ap, ◌∙◌, subst, append_assoc, ⊎_elim, add-zero, arith}
+use Rattle.std.specs.List.{list_any}
+use Rattle.std.proofs.lemmas.List.{get_or-replicate, get_or_default, length-set, length-append, length-map, length-take, map_more, get_or-set_same, get_or-set_other, get_or-take, length-take-le}
+use Rattle.std.proofs.lemmas.Bool.{false≢true, eq-eqb, ne_eqb}
 use Rattle.std.proofs.lemmas.Bool.Decides.{eqb_tells, nat_tests}
+use Rattle.std.proofs.lemmas.Map.Keys.{IsDistinct-from_apart}
+use Rattle.std.proofs.lemmas.Map.Steps.{length-le_from_distinct_below}
+use Rattle.table.specs.Ranges.{Within}
+use Rattle.table.specs.Walks.{AllIn}
 use Rattle.table.specs.Counts.{one_more}
 use Rattle.table.specs.Faults.{count, lowest, outside, mispointed, loose}
 use Rattle.table.proofs.Searches.{same_search}
+use Rattle.table.proofs.Walks.{all_at}
 
 pub count-++ : (k : ℕ) (xs ys : List ℕ) → count k (xs ++ ys) ≡ count k xs + count k ys
 count-++ k [] ys = omega arith
@@ -21,6 +27,28 @@ count-≤ k (x ∷ xs) =
 pub length-one_more : (x : ℕ) (cs : List ℕ) → length (one_more x cs) ≡ length cs
 length-one_more zero cs = refl
 length-one_more (suc j) cs = length-set cs j _
+
+-- a number that stands at no place, and one that stands at no two
+pub count_none : (y : ℕ) (xs : List ℕ) → ((i : ℕ) → i < length xs → get_or xs i 0 ≡ y → ⊥) → count y xs ≡ 0
+count_none y [] h = refl
+count_none y (x ∷ xs) h =
+    let first : cond {A = ℕ} (eqb x y) 1 0 ≡ 0 = simp (ne_eqb x y (h 0 (omega arith))) in
+    let rest = count_none y xs (λ i l e. h (suc i) (omega arith) e) in
+    omega arith
+
+pub count_once : (y : ℕ) (xs : List ℕ) → ((i j : ℕ) → i < j → j < length xs → get_or xs i 0 ≡ get_or xs j 0 → ⊥) → count y xs ≤ 1
+count_once y [] h = omega arith
+count_once y (x ∷ xs) h =
+    ⊎_elim
+    (λ t.
+    let rest = count_none y xs (λ i l e. h 0 (suc i) (omega arith) (omega arith) (t.1 ∙ sym e)) in
+    let first : cond {A = ℕ} (eqb x y) 1 0 ≡ 1 = simp t.0 in
+    omega arith)
+    (λ t.
+    let rest = count_once y xs (λ i j l m e. h (suc i) (suc j) (omega arith) (omega arith) e) in
+    let first : cond {A = ℕ} (eqb x y) 1 0 ≡ 0 = simp t.0 in
+    omega arith)
+    (eqb_tells x y)
 
 -- a number that stands at a place, and one that stands at two
 pub count_some : (y : ℕ) (xs : List ℕ) (i : ℕ) → i < length xs → get_or xs i 0 ≡ y → 1 ≤ count y xs
@@ -38,9 +66,49 @@ count_two y (x ∷ xs) zero (suc j) l m e f =
 count_two y (x ∷ xs) (suc i) zero l m e f = absurd (omega arith)
 count_two y (x ∷ xs) (suc i) (suc j) l m e f = let rest = count_two y xs i j (omega arith) (omega arith) e f in omega arith
 
+-- a number among those from 1 to n
+among : (n : ℕ) (xs : List ℕ) (q : ℕ) → AllIn n xs → list_any (eqb q) xs ≡ true → q ≤ n
+among n [] q h e = absurd (false≢true e)
+among n (x ∷ xs) q h e =
+    ⊎_elim
+    (λ t. omega (arith, t.1, h.0.1))
+    (λ t. among n xs q h.1 (subst (λ b. (b || list_any (eqb q) xs) ≡ true) t.0 e))
+    (eqb_tells q x)
+
+-- numbers from 1 to n, none of them twice, are at most n: with 0 in front they are below n + 1
+pub few : (n : ℕ) (xs : List ℕ) → AllIn n xs → ((y : ℕ) → Within 1 n y → count y xs ≤ 1) → length xs ≤ n
+few n xs h once =
+    omega (
+      arith,
+      length-le_from_distinct_below (0 ∷ xs) (n + 1) (IsDistinct-from_apart eqb (0 ∷ xs) apart) (λ q e.
+          ⊎_elim
+          (λ t. omega (arith, t.1))
+          (λ t. omega (arith, among n xs q h (subst (λ b. (b || list_any (eqb q) xs) ≡ true) t.0 e)))
+          (eqb_tells q 0)),
+    )
+  where
+    here : (i d : ℕ) → i < length xs → Within 1 n (get_or xs i d)
+    here i d lt = all_at n xs i (get_or xs i d) lt (get_or_default xs i d (get_or xs i d) lt) h
+
+    apart : (i j d : ℕ) → i < j → j < length (0 ∷ xs) → eqb (get_or (0 ∷ xs) i d) (get_or (0 ∷ xs) j d) ≡ false
+    apart zero zero d lt l = absurd (omega arith)
+    apart zero (suc j) d lt l = ne_eqb 0 (get_or xs j d) (λ e. omega (arith, (here j d (omega arith)).0))
+    apart (suc i) zero d lt l = absurd (omega arith)
+    apart (suc i) (suc j) d lt l =
+        let x = get_or xs i d in
+        ne_eqb x (get_or xs j d) (λ e.
+        omega (
+          arith,
+          once x (here i d (omega arith)),
+          count_two x xs i j (omega arith) (omega arith) (get_or_default xs i 0 d (omega arith)) (get_or_default xs j 0 d (omega arith) ∙ sym e),
+        ))
+
 -- the first n of the counts are those of the numbers of a list
 pub record Counted (n : ℕ) (cs xs : List ℕ) : Type 0 where
   pub at : (i : ℕ) → i < n → get_or cs i 0 ≡ count (i + 1) xs
+
+pub counted_none : (size n : ℕ) → n ≤ size → Counted n (replicate size 0) []
+counted_none size n h = record { at = λ i lt. get_or-replicate size i 0 0 (omega arith) }
 
 module _ {n : ℕ} {cs xs : List ℕ} (so : Counted n cs xs) where
   counted_at : (j : ℕ) → j < n → n ≤ length cs → Counted n (set cs j (get_or cs j 0 + 1)) (xs ++ suc j ∷ [])

@@ -121,6 +121,9 @@ module _ (end : ℕ) (bs ds : List ℕ) (e : bs ≡ 45 ∷ ds) where
       (p.1 ∙ ap negsuc same, sym q.1))
 
 module _ (end : ℕ) (bs : List ℕ) (other : get_or bs 0 0 ≡ 45 → ⊥) where
+  pub plain_none : Reads Short (natural_text end) bs None → Reads Small (number_text end) bs None
+  plain_none r = refused (λ z rest g at. let p = plain_must end bs z rest other g at in not_some (r.must p.0 rest p.2 p.3))
+
   pub plain_some : (k : ℕ) (us : List ℕ) → Reads Short (natural_text end) bs (Some (k, us)) → Reads Small (number_text end) bs (Some (pos k, us))
   plain_some k us r =
       let h = r.was k us refl in

@@ -1,4 +1,4 @@
-use Rattle.std.proofs.Common.{get_or, length, None, sym, ap, ◌∙◌, subst, rules}
+use Rattle.std.proofs.Common.{get_or, length, None, sym, ap, ◌∙◌, subst, arith, rules}
 use Rattle.std.specs.Option.{option_map}
 use Rattle.table.specs.Ranges.{Within, FirstsIn, FigureIn, FiguresIn}
 use Rattle.planner.specs.Grades.{ChoiceIn, given_for, ceiling_for, row_for}
@@ -36,7 +36,7 @@ returns-clause-planned c =
     let choices = c.args.choices.now in
     let is = c.replaced-row.ensures (λ i. option_map (λ c. c.row) (get_or choices i None)) (λ i r h p. search rules) in
     subst (FirstsIn t.grades t.rows) (sym is)
-    (applied_rows t.grades t.rows (row_for choices) old.figures.row t.graded.1 old.figures.long old.planned (λ i h. part_holds (λ c. c.row) (Within 1 t.rows) (ChoiceIn t.rows) _ (λ c p. p.1) (here (ChoiceIn t.rows) choices c.requires.choices i h)))
+    (applied_rows t.grades t.grades t.rows (row_for choices) old.figures.row (omega arith) t.graded.1 old.figures.long old.planned (λ i h. part_holds (λ c. c.row) (Within 1 t.rows) (ChoiceIn t.rows) _ (λ c p. p.1) (here (ChoiceIn t.rows) choices c.requires.choices i h)))
 
 pub returns-clause-after : goal.returns-clause-after
 returns-clause-after c =

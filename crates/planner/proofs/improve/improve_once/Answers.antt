@@ -32,7 +32,7 @@ invariant_of-improved-5 g c =
     let better = c.per_grade-better.result in
     let is = c.replaced-improved.ensures (λ i. get_or better i None) (λ i r h p. search rules) in
     let within = given_all _ _ c.per_grade-better.ensures (Within 1 t.rows) (λ grade o same r. search rules) in
-    record { planned = subst (FirstsIn t.grades t.rows) (sym is) (applied_rows t.grades t.rows (given_for better) old.figures.row t.graded.1 old.figures.long old.planned (here (Within 1 t.rows) better within)) }
+    record { planned = subst (FirstsIn t.grades t.rows) (sym is) (applied_rows t.grades t.grades t.rows (given_for better) old.figures.row (omega arith) t.graded.1 old.figures.long old.planned (here (Within 1 t.rows) better within)) }
 
 pub returns : goal.returns
 returns g c =
