@@ -73,10 +73,11 @@ pub(crate) fn read_figures(
     requires line { line < 1000 }
     ensures { elim result [ Ok p ↦ FigurePartRead header.now sheet.now at p.0 p.1 | Err e ↦ Halted (counts_of header.now) figure_due (counts_of header.now).figures line (drop at sheet.now) e ] }
 {
-    let (kept, _, at) = read_group::<FigureLines, MAX_GRADES>(sheet, at, line, header)?;
     if !header.figured {
         return Ok((None, at));
     }
+    let mut kept = [FigureLines::EMPTY; MAX_GRADES];
+    let at = read_group::<FigureLines>(sheet, at, line, header, &mut kept, &mut [])?;
     let figures = Figures {
         row: kept.map(|figure| figure.row),
         floor: Column {

@@ -1,6 +1,6 @@
 //! The lines of a group: the grades, the rows, the arcs or the figures, one after another.
 
-ghost use Rattle.std.specs.Prelude.{◌≡◌, ℕ, ◌+◌, ◌<◌, ◌≤◌, List, length, drop, pos, Ok, Err};
+ghost use Rattle.std.specs.Prelude.{◌≡◌, ℕ, ◌+◌, ◌<◌, ◌≤◌, ◌⊎◌, List, length, replicate, drop, pos, Ok, Err};
 ghost use Rattle.lines.specs.Lines.{entry_of};
 ghost use Rattle.lines.specs.Places.{label_of};
 ghost use Rattle.lines.specs.declared.fault.TextFault.TheVariants as TextFault;
@@ -105,31 +105,38 @@ fn group_line<G: Group>(
     Ok((kept, label_span(&text, next), next))
 }
 
-/// The lines of a group from the place `at` on, the first of them the sheet's line `line`: what is kept of each, where
-/// their labels lie, and the place after them.
-pub(crate) fn read_group<G: Group, const N: usize>(
+/// Reads the lines of a group from the place `at` on, the first of them the sheet's line `line`, and returns the place
+/// after them. What is kept of each goes to `kept`, and where its label lies to `labels`, which has no places for a kind
+/// of line without a label.
+// The caller lends the places: arrays that are returned would be copied.
+pub(crate) fn read_group<G: Group>(
     sheet: &[u8],
     at: usize,
     line: usize,
     header: &Header,
-) -> Result<([G::Kept; N], [Span; N], usize), TextFault>
+    kept: &mut [G::Kept],
+    labels: &mut [Span],
+) -> Result<usize, TextFault>
     requires place { at ≤ length sheet.now }
-    requires few { (G.count (counts_of header.now) ≤ N) × (N ≤ 512) }
+    requires few { (G.count (counts_of header.now) ≤ length kept.old) × (length kept.old ≤ 512) }
     requires line { line < 1000 }
-    ensures { elim result [ Ok p ↦ GroupRead (counts_of header.now) G.slot G.said sheet.now at (G.count (counts_of header.now)) G.EMPTY p.0 p.1 p.2 | Err e ↦ Halted (counts_of header.now) G.slot (G.count (counts_of header.now)) line (drop at sheet.now) e ] }
+    requires empty { kept.old ≡ replicate (length kept.old) G.EMPTY }
+    requires labels { (G.count (counts_of header.now) ≤ length labels.old) ⊎ ((label other : List ℕ) (i : ℕ) (x : G.Kept) → G.said label i x ≡ G.said other i x) }
+    ensures { elim result [ Ok next ↦ GroupRead (counts_of header.now) G.slot G.said sheet.now at (G.count (counts_of header.now)) G.EMPTY kept.new labels.new next | Err e ↦ Halted (counts_of header.now) G.slot (G.count (counts_of header.now)) line (drop at sheet.now) e ] }
 {
-    let mut kept = [G::EMPTY; N];
-    let mut label = [Span { start: 0, end: 0 }; N];
     let mut at = at;
-    // Tried: one local array of pairs, filled by `iter_mut().enumerate()`. `[pair; N]` of a generic pair is not covered
-    // yet, and with `array::from_fn` it stayed open that N pairs have a size below 2^63.
     for i in 0..G::count(header) {
         let due = Due {
             header,
             line: line + i,
             i,
         };
-        (kept[i], label[i], at) = group_line::<G>(sheet, at, &due)?;
+        let (read, label, next) = group_line::<G>(sheet, at, &due)?;
+        kept[i] = read;
+        if i < labels.len() {
+            labels[i] = label;
+        }
+        at = next;
     }
-    Ok((kept, label, at))
+    Ok(at)
 }

@@ -1,4 +1,4 @@
-use Rattle.std.proofs.Common.{[]}
+use Rattle.std.proofs.Common.{[], rules}
 use Rattle.lines.specs.Lines.{arc_of}
 use Rattle.sheet.specs.Due.{arc}
 use Rattle.sheet.specs.Halts.{counts_of}
@@ -10,4 +10,4 @@ pub returns : goal.returns
 returns c =
     let due = c.args.due.now in
     let line = c.in-Arc in
-    rw line.is (kept_of (counts_of due.header.now) (arc due.i) due.line (arc_said [] due.i) (arc_of line.arc) c.arc_of.result c.ok_or.result c.wrong.result c.arc_of.ensures c.wrong.ensures c.ok_or.ensures.value)
+    rw line.is (kept_of (counts_of due.header.now) (arc due.i) due.line (arc_said [] due.i) (arc_of line.arc) c.arc_of.result c.ok_or.result _ c.arc_of.ensures (search rules) c.ok_or.ensures.value)

@@ -1,4 +1,4 @@
-use Rattle.std.proofs.Common.{[]}
+use Rattle.std.proofs.Common.{[], rules}
 use Rattle.lines.specs.Lines.{figure_of}
 use Rattle.sheet.specs.Due.{figure}
 use Rattle.sheet.specs.Halts.{counts_of}
@@ -10,4 +10,4 @@ pub returns : goal.returns
 returns c =
     let due = c.args.due.now in
     let line = c.in-Figure in
-    rw line.is (kept_of (counts_of due.header.now) (figure due.i) due.line (figure_said [] due.i) (figure_of line.figure) c.figure_of.result c.ok_or.result c.wrong.result c.figure_of.ensures c.wrong.ensures c.ok_or.ensures.value)
+    rw line.is (kept_of (counts_of due.header.now) (figure due.i) due.line (figure_said [] due.i) (figure_of line.figure) c.figure_of.result c.ok_or.result _ c.figure_of.ensures (search rules) c.ok_or.ensures.value)

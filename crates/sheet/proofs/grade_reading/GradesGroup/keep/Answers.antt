@@ -1,3 +1,4 @@
+use Rattle.std.proofs.Common.{rules}
 use Rattle.lines.specs.Lines.{grade_of}
 use Rattle.sheet.specs.Due.{grade}
 use Rattle.sheet.specs.Halts.{counts_of}
@@ -9,4 +10,4 @@ pub returns : goal.returns
 returns c =
     let due = c.args.due.now in
     let line = c.in-Grade in
-    rw line.is (kept_of (counts_of due.header.now) (grade due.i) due.line (grade_said line.grade.label.now due.i) (grade_of line.grade) c.grade_of.result c.ok_or.result c.wrong.result c.grade_of.ensures c.wrong.ensures c.ok_or.ensures.value)
+    rw line.is (kept_of (counts_of due.header.now) (grade due.i) due.line (grade_said line.grade.label.now due.i) (grade_of line.grade) c.grade_of.result c.ok_or.result _ c.grade_of.ensures (search rules) c.ok_or.ensures.value)

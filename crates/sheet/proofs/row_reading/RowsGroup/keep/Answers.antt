@@ -1,3 +1,4 @@
+use Rattle.std.proofs.Common.{rules}
 use Rattle.lines.specs.Lines.{row_of}
 use Rattle.sheet.specs.Due.{row}
 use Rattle.sheet.specs.Halts.{counts_of}
@@ -9,4 +10,4 @@ pub returns : goal.returns
 returns c =
     let due = c.args.due.now in
     let line = c.in-Row in
-    rw line.is (kept_of (counts_of due.header.now) (row due.i) due.line (row_said line.row.label.now due.i) (row_of line.row) c.row_of.result c.ok_or.result c.wrong.result c.row_of.ensures c.wrong.ensures c.ok_or.ensures.value)
+    rw line.is (kept_of (counts_of due.header.now) (row due.i) due.line (row_said line.row.label.now due.i) (row_of line.row) c.row_of.result c.ok_or.result _ c.row_of.ensures (search rules) c.ok_or.ensures.value)
