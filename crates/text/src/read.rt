@@ -1,6 +1,8 @@
 //! Reading: from bytes to the value whose text is at their front, and the bytes after it.
 
+ghost use Rattle.std.specs.Prelude.{◌≡◌};
 ghost use Rattle.std.specs.Int.{IsInRange};
+ghost use Rattle.std.specs.Str.Parse.{digits_value};
 ghost use Rattle.text.specs.Reading.{Reads, seen};
 ghost use Rattle.text.specs.Fields.{byte_of, Filled, ended, Short, Small, natural_text, number_text, Label, label_text};
 
@@ -20,6 +22,18 @@ fn run(bytes: &[u8], low: u8, high: u8, most: usize, end: u8) -> Option<(&[u8], 
     (*stop == end && (1..=most).contains(&n)).then_some((front, rest))
 }
 
+/// The number that a few digits write.
+fn value(digits: &[u8]) -> u64
+    requires { Filled 48 57 11 digits.now }
+    ensures { result ≡ digits_value 10 digits.now }
+{
+    let mut n = 0;
+    for b in digits {
+        n = n * 10 + u64::from(*b - b'0');
+    }
+    n
+}
+
 /// The number at the front, of 1 to 11 digits with no leading zero, and what follows its end.
 fn natural(bytes: &[u8], end: End) -> Option<(u64, &[u8])>
     ensures { Reads Short (natural_text (byte_of end)) bytes.now (seen (λ n. n) result) }
@@ -28,8 +42,7 @@ fn natural(bytes: &[u8], end: End) -> Option<(u64, &[u8])>
     if let [b'0', _, ..] = digits {
         return None;
     }
-    let n = str::from_utf8(digits).ok()?.parse().ok()?;
-    Some((n, rest))
+    Some((value(digits), rest))
 }
 
 /// The number at the front, with a minus where it is negative and never `-0`, and what follows its end.
