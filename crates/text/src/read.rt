@@ -16,10 +16,13 @@ fn run(bytes: &[u8], low: u8, high: u8, most: usize, end: u8) -> Option<(&[u8], 
     ensures { Reads (Filled low high most) (ended end) bytes.now (seen (λ x. x.now) result) }
 {
     let n = bytes.iter().position(|b| !(low..=high).contains(b))?;
+    if !(1..=most).contains(&n) {
+        return None;
+    }
     let (front, [stop, rest @ ..]) = bytes.split_at(n) else {
         return None;
     };
-    (*stop == end && (1..=most).contains(&n)).then_some((front, rest))
+    (*stop == end).then_some((front, rest))
 }
 
 /// The number that a few digits write.
@@ -29,7 +32,7 @@ fn value(digits: &[u8]) -> u64
 {
     let mut n = 0;
     for b in digits {
-        n = n * 10 + u64::from(*b - b'0');
+        n = n * 10 + u64::from(*b) - u64::from(b'0');
     }
     n
 }

@@ -5,8 +5,8 @@ use Rattle.std.proofs.lemmas.List.{take_all}
 use Rattle.text.proofs.Numbers.{digit_is}
 use Rattle.text.proofs.read.value.Goals as goal
 
-pub overflow_sub-b : goal.overflow_sub-b
-overflow_sub-b c = (c.requires.all c.loop-b.b-index (omega arith)).0
+pub overflow_sub-n : goal.overflow_sub-n
+overflow_sub-n c = let d = c.requires.all c.loop-b.b-index (omega arith) in omega arith
 
 pub loop-b-preserved : goal.loop-b-preserved
 loop-b-preserved c =
