@@ -1,9 +1,9 @@
 -- Bytes of a kind, up to the byte that ends them.
-use Rattle.std.proofs.Common.{◌≡◌, ℕ, suc, ◌+◌, ◌-◌, ◌<◌, ◌≤◌, List, [], ◌∷◌, ◌++◌, length, get_or, take, drop, Bool, true, false, Some, None, sym, refl, ap, ◌∙◌, subst, append_assoc, arith}
+use Rattle.std.proofs.Common.{◌≡◌, ℕ, suc, ◌+◌, ◌-◌, ◌<◌, ◌≤◌, List, [], ◌∷◌, ◌++◌, length, get_or, take, drop, Bool, true, false, Some, None, Option, sym, refl, ap, ◌∙◌, subst, append_assoc, arith}
 use Rattle.std.specs.Bool.{then_some}
 use Rattle.std.specs.Borrow.{Bor}
 use Rattle.std.specs.Int.{IsInRange}
-use Rattle.std.proofs.lemmas.List.{length-take-le, length-drop, get_or-take, get_or-drop, take-append-drop}
+use Rattle.std.proofs.lemmas.List.{take_all, length-take-le, length-drop, get_or-take, get_or-drop, take-append-drop}
 use Rattle.std.proofs.lemmas.Slice.{first_rest}
 use Rattle.text.specs.Reading.{Reads, Alone, seen}
 use Rattle.text.specs.Fields.{Filled, ended, Label, label_text}
@@ -73,3 +73,9 @@ module _ (low high limit end : ℕ) (out : IsInRange low high end → ⊥) where
 -- the text of a label is the front of no other's
 pub label_alone : Alone Label label_text
 label_alone = filled_alone 33 126 24 10 (λ i. omega arith)
+
+-- such bytes up to a line's end are a label, also where the answer gives them in another form
+pub label_read : (end : ℕ) (bs : List ℕ) (o r : Option (List ℕ × List ℕ)) → end ≡ 10 → Reads (Filled 33 126 24) (ended end) bs o → o ≡ r → Reads Label label_text bs r
+label_read end bs o r is reads same = subst (Reads Label label_text bs) same (subst (λ e. Reads Label (ended e) bs o) is reads)
+
+pub ruleset label_steps = (label_read, take_all)

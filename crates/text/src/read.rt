@@ -66,6 +66,7 @@ pub fn number(bytes: &[u8], end: End) -> Option<(i64, &[u8])>
 }
 
 /// The label at the front, and what follows the line's end after it.
+#[tactic(auto, using(crate::proofs::Labels::label_steps))]
 pub fn label(bytes: &[u8]) -> Option<(&[u8], &[u8])>
     ensures { Reads Label label_text bytes.now (seen (λ x. x.now) result) }
 {

@@ -1,4 +1,4 @@
-use Rattle.std.proofs.Common.{◌≡◌, ℕ, ◌<◌, ◌≤◌, length, get_or, take, drop, sym, refl, ◌∙◌, rules, arith}
+use Rattle.std.proofs.Common.{ℕ, ◌<◌, ◌≤◌, get_or, take, drop, refl, rules}
 use Rattle.std.specs.Int.{IsInRange}
 use Rattle.text.proofs.Labels.{run_if, run_other}
 use Rattle.text.proofs.read.run.Goals as goal
