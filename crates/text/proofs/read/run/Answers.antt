@@ -4,11 +4,11 @@ use Rattle.text.proofs.Labels.{run_if, run_other}
 use Rattle.text.proofs.read.run.Goals as goal
 use Rattle.text.proofs.read.run.Goals.{In_ok-n}
 
-before : (c : In_ok-n) → (k : ℕ) → k < c.in_ok-n.n → IsInRange c.args.low c.args.high (get_or c.args.bytes.now k 0)
-before c = search rules
-
 stops : (c : In_ok-n) → c.args.low ≤ get_or c.args.bytes.now c.in_ok-n.n 0 → c.args.high < get_or c.args.bytes.now c.in_ok-n.n 0
 stops c = search rules
+
+before : (c : In_ok-n) → (k : ℕ) → k < c.in_ok-n.n → IsInRange c.args.low c.args.high (get_or c.args.bytes.now k 0)
+before c = search rules
 
 pub returns-then-not-contains : goal.returns-then-not-contains
 returns-then-not-contains c =
