@@ -1,9 +1,9 @@
 -- Bytes of a kind, up to the byte that ends them.
-use Rattle.std.proofs.Common.{◌≡◌, ℕ, suc, ◌+◌, ◌-◌, ◌<◌, ◌≤◌, List, [], ◌∷◌, ◌++◌, length, get_or, take, drop, Bool, true, false, Some, None, sym, refl, ap, ◌∙◌, subst, append_assoc, arith}
+use Rattle.std.proofs.Common.{◌≡◌, ℕ, suc, ◌+◌, ◌-◌, ◌<◌, ◌≤◌, List, [], ◌∷◌, ◌++◌, length, get_or, take, drop, Bool, true, false, Some, None, Option, sym, refl, ap, ◌∙◌, subst, append_assoc, arith}
 use Rattle.std.specs.Bool.{then_some}
 use Rattle.std.specs.Borrow.{Bor}
 use Rattle.std.specs.Int.{IsInRange}
-use Rattle.std.proofs.lemmas.List.{length-take-le, length-drop, get_or-take, get_or-drop, take-append-drop}
+use Rattle.std.proofs.lemmas.List.{take_all, length-take-le, length-drop, get_or-take, get_or-drop, take-append-drop}
 use Rattle.std.proofs.lemmas.Slice.{first_rest}
 use Rattle.text.specs.Reading.{Reads, Alone, seen}
 use Rattle.text.specs.Fields.{Filled, ended, Label, label_text}
@@ -55,7 +55,7 @@ module _ (low high limit end : ℕ) (out : IsInRange low high end → ⊥) where
         let text : bs ≡ ended end front ++ rest = cut ∙ ap (λ b. front ++ b ∷ rest) last ∙ sym (append_assoc front (end ∷ []) rest) in
         returned front rest good text (λ xs more g e. filled_alone xs front more rest g good (sym e ∙ text))
 
-    run_other : (low ≤ get_or bs n 0 → high < get_or bs n 0) → (0 < n → n ≤ limit → get_or back 0 0 ≡ end → ⊥) → Reads (Filled low high limit) (ended end) bs None
+    pub run_other : (low ≤ get_or bs n 0 → high < get_or bs n 0) → (0 < n → n ≤ limit → get_or back 0 0 ≡ end → ⊥) → Reads (Filled low high limit) (ended end) bs None
     unfolding stop rest
     run_other stops other =
         let same : n + 0 ≡ n = omega arith in
@@ -65,11 +65,17 @@ module _ (low high limit end : ℕ) (out : IsInRange low high end → ⊥) where
         let same = cut_once low high front xs stop end rest more each g.all outside out (sym cut ∙ e ∙ append_assoc xs (end ∷ []) more) in
         other (omega (arith, long, ap length same.0, g.some)) (omega (arith, long, ap length same.0, g.most)) same.1)
 
-    -- both, by whether the byte ends as many of them as there may be
-    pub run_if : (low ≤ get_or bs n 0 → high < get_or bs n 0) → (parts : Bor (List ℕ) × Bor (List ℕ)) → parts.0.now ≡ front → parts.1.now ≡ take (length back - 1) (drop 1 back) → (ends : Bool) → (ends ≡ true → (0 < n) × (n ≤ limit) × (get_or back 0 0 ≡ end)) → (ends ≡ false → 0 < n → n ≤ limit → get_or back 0 0 ≡ end → ⊥) → Reads (Filled low high limit) (ended end) bs (seen (λ x. x.now) (then_some ends parts))
-    run_if stops parts one two true met unmet = let p = met refl in subst (Reads (Filled low high limit) (ended end) bs) (λ i. Some (sym one i, sym two i)) (run_some p.0 p.1 p.2)
-    run_if stops parts one two false met unmet = run_other stops (unmet refl)
+    -- both, by whether `end` follows as many of them as there may be
+    pub run_if : (low ≤ get_or bs n 0 → high < get_or bs n 0) → 0 < n → n ≤ limit → (parts : Bor (List ℕ) × Bor (List ℕ)) → parts.0.now ≡ front → parts.1.now ≡ take (length back - 1) (drop 1 back) → (ends : Bool) → (ends ≡ true → get_or back 0 0 ≡ end) → (ends ≡ false → get_or back 0 0 ≡ end → ⊥) → Reads (Filled low high limit) (ended end) bs (seen (λ x. x.now) (then_some ends parts))
+    run_if stops some most parts one two true met unmet = subst (Reads (Filled low high limit) (ended end) bs) (λ i. Some (sym one i, sym two i)) (run_some some most (met refl))
+    run_if stops some most parts one two false met unmet = run_other stops (λ _some _most last. unmet refl last)
 
 -- the text of a label is the front of no other's
 pub label_alone : Alone Label label_text
 label_alone = filled_alone 33 126 24 10 (λ i. omega arith)
+
+-- such bytes up to a line's end are a label, also where the answer gives them in another form
+pub label_read : (end : ℕ) (bs : List ℕ) (o r : Option (List ℕ × List ℕ)) → end ≡ 10 → Reads (Filled 33 126 24) (ended end) bs o → o ≡ r → Reads Label label_text bs r
+label_read end bs o r is reads same = subst (Reads Label label_text bs) same (subst (λ e. Reads Label (ended e) bs o) is reads)
+
+pub ruleset label_steps = (label_read, take_all)

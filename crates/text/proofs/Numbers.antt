@@ -1,15 +1,14 @@
 -- Numbers at the front of bytes.
-use Rattle.std.proofs.Common.{◌≡◌, ℕ, suc, ◌-◌, ◌^◌, ◌<◌, List, [], ◌∷◌, ◌++◌, length, get_or, take, drop, ℤ, pos, negsuc, Some, None, Ok, Result, decimal, sym, refl, ap, ◌∙◌, subst, ⊎_elim, append_assoc, arith}
-use Rattle.std.specs.Str.Parse.{digits_value, ParsesUnsigned}
+use Rattle.std.proofs.Common.{◌≡◌, ℕ, suc, ◌-◌, ◌^◌, ◌<◌, List, [], ◌∷◌, ◌++◌, length, get_or, take, drop, ℤ, pos, negsuc, Some, None, decimal, sym, refl, ap, ◌∙◌, subst, ⊎_elim, append_assoc, arith}
+use Rattle.std.specs.Str.Parse.{digits_value}
 use Rattle.std.specs.Int.{IsInRange}
+use Rattle.std.specs.Char.{digit_value}
 use Rattle.std.proofs.lemmas.Slice.{first_rest}
 use Rattle.std.proofs.lemmas.List.{get_or_append_left}
 use Rattle.std.proofs.lemmas.Bool.{cases_lt}
-use Rattle.std.proofs.lemmas.Str.Parse.{IsNumeralModel, numerals_by_value, tells_by_index, digits_value_short, digit_at, parse_gives}
+use Rattle.std.proofs.lemmas.Str.Parse.{IsNumeralModel, numerals_by_value, tells_by_index, digits_value_short, digit_at}
 use Rattle.std.proofs.lemmas.Fmt.{decimal_is_IsNumeral, decimal_nonempty, decimal_digit, first_decimal, length-decimal-le, decimal-digits_value}
-use Rattle.std.specs.Str.{IsUtf8}
-use Rattle.std.proofs.lemmas.Str.{IsUtf8-from_ascii}
-use Rattle.std.proofs.lemmas.Str.Ascii.{IsAscii-from_reads}
+use Rattle.std.proofs.lemmas.Bool.Decides.{nat_tests}
 use Rattle.text.specs.declared.end.End.{End}
 use Rattle.text.specs.declared.end.End.TheVariants as field
 use Rattle.text.specs.Reading.{Reads, Alone}
@@ -75,12 +74,8 @@ module _ (end : ℕ) (bs : List ℕ) where
         let small : m < 2 ^ 64 = omega arith in
         (sym (ap (digits_value 10) is.0 ∙ (decimal_is_IsNumeral m small).1), sym is.1))
 
--- digits are a text, which is parsed to their value
-pub digits_utf8 : (ds : List ℕ) → Filled 48 57 11 ds → IsUtf8 ds
-digits_utf8 ds good = IsUtf8-from_ascii ds (IsAscii-from_reads ds (length ds) (omega arith) (λ k lt. let d = good.all k lt in omega arith))
-
-pub parsed : {E : Type 0} (ds : List ℕ) (r : Result ℕ E) → Filled 48 57 11 ds → ParsesUnsigned 64 10 ds r → r ≡ Ok (digits_value 10 ds)
-parsed ds r good h = parse_gives own 64 ds r h good.all good.some (omega (arith, value_short ds good))
+pub digit_is : (c : ℕ) → IsInRange 48 57 c → digit_value c ≡ c - 48
+digit_is c h = grind (arith, nat_tests)
 
 -- a number with no minus begins with a digit
 pub head_digit : (m : ℕ) (us : List ℕ) (b : ℕ) (ds : List ℕ) → Short m → b ∷ ds ≡ decimal m ++ us → IsInRange 48 57 b

@@ -1,7 +1,7 @@
 -- One write after another.
-use Rattle.std.proofs.Common.{◌≡◌, ℕ, ◌+◌, ◌≤◌, List, ◌++◌, length, take, drop, ℤ, Some, None, Option, sym, ap, ◌∙◌, append_assoc, arith}
+use Rattle.std.proofs.Common.{◌≡◌, ℕ, ◌+◌, ◌≤◌, List, [], ◌∷◌, ◌++◌, length, take, drop, ℤ, Some, None, Option, sym, ap, ◌∙◌, subst, append_assoc, arith}
 use Rattle.std.proofs.lemmas.List.{length-append, length-take-le, length-drop, take_at, take-take, drop_at, drop-drop}
-use Rattle.text.specs.Fields.{number_text}
+use Rattle.text.specs.Fields.{ended, number_text}
 use Rattle.text.specs.Writing.{put, Writes, ReadsBack}
 
 module _ (xs : List ℕ) (at : ℕ) (ys : List ℕ) (room : at + length ys ≤ length xs) where
@@ -43,6 +43,10 @@ writes_then xs at a ys j w b None zs v =
       sym (take-take at j zs less) ∙ ap (take at) v.2 ∙ take-take at j ys less ∙ ap (take at) w.2 ∙ take_put xs at a room,
     )
 
+-- the byte that ends a field, after its text
+pub writes_ended : (xs : List ℕ) (at : ℕ) (a ys : List ℕ) (j : ℕ) → Writes xs at a (Some j) ys → (b e : ℕ) → b ≡ e → (r : Option ℕ) (zs : List ℕ) → Writes ys j (b ∷ []) r zs → Writes xs at (ended e a) r zs
+writes_ended xs at a ys j w b e is r zs v = writes_then xs at a ys j w (e ∷ []) r zs (subst (λ b. Writes ys j (b ∷ []) r zs) is v)
+
 pub writes_none : (xs : List ℕ) (at : ℕ) (a ys b : List ℕ) → Writes xs at a None ys → Writes xs at (a ++ b) None ys
 writes_none xs at a ys b w = (omega (arith, length-append a b), w.1, w.2)
 
@@ -61,3 +65,5 @@ reads_back xs at e z (Some j) zs w =
       after = after;
       read = λ o small reads. reads.must z (drop j zs) small here;
     }
+
+pub ruleset field_steps = (writes_ended, reads_back)

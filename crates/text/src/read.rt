@@ -1,6 +1,8 @@
 //! Reading: from bytes to the value whose text is at their front, and the bytes after it.
 
+ghost use Rattle.std.specs.Prelude.{◌≡◌};
 ghost use Rattle.std.specs.Int.{IsInRange};
+ghost use Rattle.std.specs.Str.Parse.{digits_value};
 ghost use Rattle.text.specs.Reading.{Reads, seen};
 ghost use Rattle.text.specs.Fields.{byte_of, Filled, ended, Short, Small, natural_text, number_text, Label, label_text};
 
@@ -14,10 +16,25 @@ fn run(bytes: &[u8], low: u8, high: u8, most: usize, end: u8) -> Option<(&[u8], 
     ensures { Reads (Filled low high most) (ended end) bytes.now (seen (λ x. x.now) result) }
 {
     let n = bytes.iter().position(|b| !(low..=high).contains(b))?;
+    if !(1..=most).contains(&n) {
+        return None;
+    }
     let (front, [stop, rest @ ..]) = bytes.split_at(n) else {
         return None;
     };
-    (*stop == end && (1..=most).contains(&n)).then_some((front, rest))
+    (*stop == end).then_some((front, rest))
+}
+
+/// The number that a few digits write.
+fn value(digits: &[u8]) -> u64
+    requires { Filled 48 57 11 digits.now }
+    ensures { result ≡ digits_value 10 digits.now }
+{
+    let mut n = 0;
+    for b in digits {
+        n = n * 10 + u64::from(*b) - u64::from(b'0');
+    }
+    n
 }
 
 /// The number at the front, of 1 to 11 digits with no leading zero, and what follows its end.
@@ -28,8 +45,7 @@ fn natural(bytes: &[u8], end: End) -> Option<(u64, &[u8])>
     if let [b'0', _, ..] = digits {
         return None;
     }
-    let n = str::from_utf8(digits).ok()?.parse().ok()?;
-    Some((n, rest))
+    Some((value(digits), rest))
 }
 
 /// The number at the front, with a minus where it is negative and never `-0`, and what follows its end.
@@ -50,6 +66,7 @@ pub fn number(bytes: &[u8], end: End) -> Option<(i64, &[u8])>
 }
 
 /// The label at the front, and what follows the line's end after it.
+#[tactic(auto, using(crate::proofs::Labels::label_steps))]
 pub fn label(bytes: &[u8]) -> Option<(&[u8], &[u8])>
     ensures { Reads Label label_text bytes.now (seen (λ x. x.now) result) }
 {

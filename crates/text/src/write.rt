@@ -23,6 +23,7 @@ pub fn write_bytes(out: &mut [u8], at: usize, bytes: &[u8]) -> Option<usize>
 }
 
 /// Writes all of `bytes`, and the byte that ends their field.
+#[tactic(auto, using(crate::proofs::Writing::field_steps))]
 fn write_ended(out: &mut [u8], at: usize, bytes: &[u8], end: End) -> Option<usize>
     ensures { Writes out.old at (ended (byte_of end) bytes.now) result out.new }
 {
@@ -38,6 +39,7 @@ pub fn write_number(out: &mut [u8], at: usize, z: i64) -> Option<usize>
 }
 
 /// Writes a number and the byte that ends its field. At that place it then reads back.
+#[tactic(auto, using(crate::proofs::Writing::field_steps))]
 pub fn write_field(out: &mut [u8], at: usize, z: i64, end: End) -> Option<usize>
     ensures back { ReadsBack out.old at (byte_of end) z result out.new }
     ensures text { Writes out.old at (number_text (byte_of end) z) result out.new }
@@ -46,6 +48,7 @@ pub fn write_field(out: &mut [u8], at: usize, z: i64, end: End) -> Option<usize>
 }
 
 /// Writes a count and the byte that ends its field.
+#[tactic(auto, using(crate::proofs::Writing::field_steps))]
 pub fn write_count(out: &mut [u8], at: usize, n: u64, end: End) -> Option<usize>
     ensures { Writes out.old at (natural_text (byte_of end) n) result out.new }
 {
