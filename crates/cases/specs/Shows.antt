@@ -1,7 +1,9 @@
 -- What is so where a helper of the tests answers true, so that none can answer true always. Assumes nothing.
 use Rattle.std.specs.Prelude.{◌≡◌, ℕ, ◌<◌, Bool, true, List, ◌++◌, length, take, drop, get_or, pos, slice_index_or, Ok, Err, Option, Result}
 use Rattle.std.specs.Borrow.{Bor}
+use Rattle.table.specs.declared.fault.FiguresFault.TheVariants.{PlanRow, Part, Floor, Ceiling}
 use Rattle.table.specs.declared.fault.FilingFault.{FilingFault}
+use Rattle.table.specs.declared.fault.FilingFault.TheVariants as fault
 use Rattle.table.specs.declared.figures.Figures.{Figures}
 use Rattle.table.specs.declared.filing.FiledLine.{FiledLine}
 use Rattle.table.specs.declared.page.Page.{Page}
@@ -26,10 +28,18 @@ pub record LineShown (f : Figures) (l : FiledLine) (k : ℕ) : Type 0 where
 abbrev pub LinesShown : Figures → List FiledLine → Type 0
 LinesShown f ls = (k : ℕ) → k < length ls → LineShown f (slice_index_or ls k line0) k
 
--- a filing is answered as it is due: by a page that shows the lines, or by the fault
-abbrev pub Answers : Result Page FilingFault → Result (Bor (List FiledLine)) FilingFault → Type 0
+-- number, grade and row of the refusal of a filing
+abbrev pub filing_refusal : FilingFault → ℕ × ℕ × ℕ
+filing_refusal fault.Lines = (16, 0, 0)
+filing_refusal (fault.Figures (PlanRow g k)) = (9, g, k)
+filing_refusal (fault.Figures (Part g)) = (17, g, 0)
+filing_refusal (fault.Figures (Floor g k)) = (10, g, k)
+filing_refusal (fault.Figures (Ceiling g k)) = (11, g, k)
+
+-- a filing is answered as it is due: by a page that shows the lines, or by the refusal
+abbrev pub Answers : Result Page FilingFault → Result (Bor (List FiledLine)) (ℕ × ℕ × ℕ) → Type 0
 Answers (Ok p) (Ok ls) = LinesShown p.figures ls.now
-Answers (Err f) (Err due) = f ≡ due
+Answers (Err f) (Err due) = filing_refusal f ≡ due
 Answers (Ok p) (Err due) = ⊥
 Answers (Err f) (Ok ls) = ⊥
 

@@ -1,14 +1,12 @@
 //! What is filed for the shop of two grades.
 
-use table::FiguresFault::{Ceiling, Floor, Part, PlanRow};
-use table::FilingFault::{Figures, Lines};
-use table::{FiledLine, FilingFault};
+use table::FiledLine;
 
-/// Filed lines, and what answers them: the lines that the start page then shows, or the fault. By number the faults are
-/// 16 `Lines`, 9 `PlanRow`, 17 `Part`, 10 `Floor` and 11 `Ceiling`.
+/// Filed lines, and what answers them: the lines that the start page then shows, or the number, grade and row of the
+/// fault.
 pub(crate) struct Filing {
     pub(crate) lines: &'static [FiledLine],
-    pub(crate) answer: Result<&'static [FiledLine], FilingFault>,
+    pub(crate) answer: Result<&'static [FiledLine], (u32, usize, usize)>,
 }
 
 /// Filings on the start page, by money only.
@@ -47,7 +45,7 @@ pub(crate) static FILINGS: [Filing; 38] = [
             floor: (6, 0),
             ceiling: (6, 0),
         }],
-        answer: Err(Lines),
+        answer: Err((16, 0, 0)),
     },
     Filing {
         lines: &[
@@ -67,11 +65,11 @@ pub(crate) static FILINGS: [Filing; 38] = [
                 ceiling: (30, 0),
             },
         ],
-        answer: Err(Lines),
+        answer: Err((16, 0, 0)),
     },
     Filing {
         lines: &[],
-        answer: Err(Lines),
+        answer: Err((16, 0, 0)),
     },
     // Their number comes before everything else.
     Filing {
@@ -80,7 +78,7 @@ pub(crate) static FILINGS: [Filing; 38] = [
             floor: (10_000_000_001, 0),
             ceiling: (5, 0),
         }],
-        answer: Err(Lines),
+        answer: Err((16, 0, 0)),
     },
     // Floors and ceilings.
     Filing {
@@ -96,7 +94,7 @@ pub(crate) static FILINGS: [Filing; 38] = [
                 ceiling: (30, 0),
             },
         ],
-        answer: Err(Figures(Floor { grade: 2, row: 3 })),
+        answer: Err((10, 2, 3)),
     },
     Filing {
         lines: &[
@@ -111,7 +109,7 @@ pub(crate) static FILINGS: [Filing; 38] = [
                 ceiling: (30, 0),
             },
         ],
-        answer: Err(Figures(Floor { grade: 1, row: 1 })),
+        answer: Err((10, 1, 1)),
     },
     Filing {
         lines: &[
@@ -126,7 +124,7 @@ pub(crate) static FILINGS: [Filing; 38] = [
                 ceiling: (30, 0),
             },
         ],
-        answer: Err(Figures(Ceiling { grade: 1, row: 1 })),
+        answer: Err((11, 1, 1)),
     },
     Filing {
         lines: &[
@@ -141,7 +139,7 @@ pub(crate) static FILINGS: [Filing; 38] = [
                 ceiling: (29, 0),
             },
         ],
-        answer: Err(Figures(Ceiling { grade: 2, row: 3 })),
+        answer: Err((11, 2, 3)),
     },
     Filing {
         lines: &[
@@ -156,7 +154,7 @@ pub(crate) static FILINGS: [Filing; 38] = [
                 ceiling: (30, 0),
             },
         ],
-        answer: Err(Figures(Ceiling { grade: 2, row: 2 })),
+        answer: Err((11, 2, 2)),
     },
     // A floor of a later grade comes before a ceiling.
     Filing {
@@ -172,7 +170,7 @@ pub(crate) static FILINGS: [Filing; 38] = [
                 ceiling: (30, 0),
             },
         ],
-        answer: Err(Figures(Floor { grade: 2, row: 3 })),
+        answer: Err((10, 2, 3)),
     },
     // Plan rows that are not of their grade.
     Filing {
@@ -188,7 +186,7 @@ pub(crate) static FILINGS: [Filing; 38] = [
                 ceiling: (30, 0),
             },
         ],
-        answer: Err(Figures(PlanRow { grade: 2, row: 1 })),
+        answer: Err((9, 2, 1)),
     },
     Filing {
         lines: &[
@@ -203,7 +201,7 @@ pub(crate) static FILINGS: [Filing; 38] = [
                 ceiling: (30, 0),
             },
         ],
-        answer: Err(Figures(PlanRow { grade: 1, row: 2 })),
+        answer: Err((9, 1, 2)),
     },
     Filing {
         lines: &[
@@ -218,7 +216,7 @@ pub(crate) static FILINGS: [Filing; 38] = [
                 ceiling: (30, 0),
             },
         ],
-        answer: Err(Figures(PlanRow { grade: 2, row: 0 })),
+        answer: Err((9, 2, 0)),
     },
     Filing {
         lines: &[
@@ -233,7 +231,7 @@ pub(crate) static FILINGS: [Filing; 38] = [
                 ceiling: (30, 0),
             },
         ],
-        answer: Err(Figures(PlanRow { grade: 2, row: 4 })),
+        answer: Err((9, 2, 4)),
     },
     Filing {
         lines: &[
@@ -248,7 +246,7 @@ pub(crate) static FILINGS: [Filing; 38] = [
                 ceiling: (30, 0),
             },
         ],
-        answer: Err(Figures(PlanRow { grade: 1, row: 0 })),
+        answer: Err((9, 1, 0)),
     },
     Filing {
         lines: &[
@@ -263,7 +261,7 @@ pub(crate) static FILINGS: [Filing; 38] = [
                 ceiling: (30, 0),
             },
         ],
-        answer: Err(Figures(PlanRow { grade: 1, row: 4 })),
+        answer: Err((9, 1, 4)),
     },
     // Parts beyond their range, in each place of both grades.
     Filing {
@@ -279,7 +277,7 @@ pub(crate) static FILINGS: [Filing; 38] = [
                 ceiling: (30, 0),
             },
         ],
-        answer: Err(Figures(Part { grade: 1 })),
+        answer: Err((17, 1, 0)),
     },
     Filing {
         lines: &[
@@ -294,7 +292,7 @@ pub(crate) static FILINGS: [Filing; 38] = [
                 ceiling: (30, 0),
             },
         ],
-        answer: Err(Figures(Part { grade: 1 })),
+        answer: Err((17, 1, 0)),
     },
     Filing {
         lines: &[
@@ -309,7 +307,7 @@ pub(crate) static FILINGS: [Filing; 38] = [
                 ceiling: (30, 0),
             },
         ],
-        answer: Err(Figures(Part { grade: 1 })),
+        answer: Err((17, 1, 0)),
     },
     Filing {
         lines: &[
@@ -324,7 +322,7 @@ pub(crate) static FILINGS: [Filing; 38] = [
                 ceiling: (30, 0),
             },
         ],
-        answer: Err(Figures(Part { grade: 1 })),
+        answer: Err((17, 1, 0)),
     },
     Filing {
         lines: &[
@@ -339,7 +337,7 @@ pub(crate) static FILINGS: [Filing; 38] = [
                 ceiling: (30, 0),
             },
         ],
-        answer: Err(Figures(Part { grade: 1 })),
+        answer: Err((17, 1, 0)),
     },
     Filing {
         lines: &[
@@ -354,7 +352,7 @@ pub(crate) static FILINGS: [Filing; 38] = [
                 ceiling: (30, 0),
             },
         ],
-        answer: Err(Figures(Part { grade: 1 })),
+        answer: Err((17, 1, 0)),
     },
     Filing {
         lines: &[
@@ -369,7 +367,7 @@ pub(crate) static FILINGS: [Filing; 38] = [
                 ceiling: (30, 0),
             },
         ],
-        answer: Err(Figures(Part { grade: 1 })),
+        answer: Err((17, 1, 0)),
     },
     Filing {
         lines: &[
@@ -384,7 +382,7 @@ pub(crate) static FILINGS: [Filing; 38] = [
                 ceiling: (30, 0),
             },
         ],
-        answer: Err(Figures(Part { grade: 1 })),
+        answer: Err((17, 1, 0)),
     },
     Filing {
         lines: &[
@@ -399,7 +397,7 @@ pub(crate) static FILINGS: [Filing; 38] = [
                 ceiling: (30, 0),
             },
         ],
-        answer: Err(Figures(Part { grade: 2 })),
+        answer: Err((17, 2, 0)),
     },
     Filing {
         lines: &[
@@ -414,7 +412,7 @@ pub(crate) static FILINGS: [Filing; 38] = [
                 ceiling: (30, 0),
             },
         ],
-        answer: Err(Figures(Part { grade: 2 })),
+        answer: Err((17, 2, 0)),
     },
     Filing {
         lines: &[
@@ -429,7 +427,7 @@ pub(crate) static FILINGS: [Filing; 38] = [
                 ceiling: (-10_000_000_001, 0),
             },
         ],
-        answer: Err(Figures(Part { grade: 2 })),
+        answer: Err((17, 2, 0)),
     },
     Filing {
         lines: &[
@@ -444,7 +442,7 @@ pub(crate) static FILINGS: [Filing; 38] = [
                 ceiling: (30, 10_000_000_001),
             },
         ],
-        answer: Err(Figures(Part { grade: 2 })),
+        answer: Err((17, 2, 0)),
     },
     // A plan row of a later grade comes before them, and they come before a floor.
     Filing {
@@ -460,7 +458,7 @@ pub(crate) static FILINGS: [Filing; 38] = [
                 ceiling: (30, 0),
             },
         ],
-        answer: Err(Figures(PlanRow { grade: 2, row: 1 })),
+        answer: Err((9, 2, 1)),
     },
     Filing {
         lines: &[
@@ -475,7 +473,7 @@ pub(crate) static FILINGS: [Filing; 38] = [
                 ceiling: (10_000_000_001, 0),
             },
         ],
-        answer: Err(Figures(Part { grade: 2 })),
+        answer: Err((17, 2, 0)),
     },
     // Parts at the ends of their range are no fault of range.
     Filing {
@@ -517,7 +515,7 @@ pub(crate) static FILINGS: [Filing; 38] = [
                 ceiling: (10_000_000_000, -10_000_000_000),
             },
         ],
-        answer: Err(Figures(Floor { grade: 1, row: 1 })),
+        answer: Err((10, 1, 1)),
     },
     Filing {
         lines: &[
@@ -532,7 +530,7 @@ pub(crate) static FILINGS: [Filing; 38] = [
                 ceiling: (-10_000_000_000, 10_000_000_000),
             },
         ],
-        answer: Err(Figures(Ceiling { grade: 1, row: 1 })),
+        answer: Err((11, 1, 1)),
     },
     // Ties: the standing row stays, and the standing minutes.
     Filing {

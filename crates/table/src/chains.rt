@@ -23,7 +23,8 @@ impl Linked for Row {
     ghost none = { row0 };
 
     fn next_link(&self) -> usize {
-        self.next
+        let Row { next, .. } = *self;
+        next
     }
 }
 
@@ -33,7 +34,8 @@ impl Linked for Arc {
     ghost none = { arc0 };
 
     fn next_link(&self) -> usize {
-        self.next
+        let Arc { next, .. } = *self;
+        next
     }
 }
 
