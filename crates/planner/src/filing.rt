@@ -54,12 +54,19 @@ fn nearer_page<R: Ranking>(ranking: &R, standing: &Page, filed: &Page) -> Page
     ensures table { result.sound ≡ standing.now.sound }
     ensures after { shown result.figures ≡ nearer_of (R.ranks ranking.now) (shown standing.now.figures) (shown filed.now.figures) standing.now.sound.table.grades }
 {
-    let sound = standing.sound;
     let (old, new) = (&standing.figures, &filed.figures);
-    let floors = per_grade(&sound, |grade| dearer_floor(ranking, grade, old, new));
-    let choices = per_grade(&sound, |grade| cheaper_ceiling(ranking, grade, old, new));
+    let mut nearer = *standing;
+    let floors = per_grade(
+        &standing.sound,
+        |grade| dearer_floor(ranking, grade, old, new),
+    );
+    let choices = per_grade(
+        &standing.sound,
+        |grade| cheaper_ceiling(ranking, grade, old, new),
+    );
     let figures = revised(standing, &floors, &choices);
-    Page { sound, figures }
+    nearer.figures = figures;
+    nearer
 }
 
 /// Files lines: each grade keeps the dearer floor, and the cheaper ceiling with its row; the standing one at a tie. It is

@@ -60,17 +60,21 @@ pub fn sweep_once<R: Rounding>(ranking: &R, page: &Page) -> Sweep
     ensures moved { result.moved ≡ moves (R.Ranking.ranks ranking.now) (R.cheap ranking.now) (R.dear ranking.now) page.now.sound.table (shown page.now.figures) }
     ensures keeps { Keeping (R.Ranking.ranks ranking.now) page.now.sound.table (shown page.now.figures) (shown result.page.figures) }
 {
-    let sound = page.sound;
-    let n = sound.table.grades;
+    let n = page.sound.table.grades;
     let old = &page.figures;
-    let raised = per_grade(&sound, |grade| raised_floor(ranking, grade, &old.floor));
+    let mut swept = *page;
+    let raised = per_grade(
+        &page.sound,
+        |grade| raised_floor(ranking, grade, &old.floor),
+    );
     let lowered = per_grade(
-        &sound,
+        &page.sound,
         |grade| lowered_ceiling(ranking, grade, &old.ceiling),
     );
     let figures = revised(page, &raised, &lowered);
+    swept.figures = figures;
     Sweep {
-        page: Page { sound, figures },
+        page: swept,
         moved: some_given(&raised, n) | some_given(&lowered, n),
     }
 }
